@@ -6,11 +6,9 @@ an object that does not match its entry, then a digest that is not that of the p
 import random
 
 from formats import BACKUP_CAUSES, Object, Wrong, entry_of, md5, read_backup, spell_backup, spell_entry
-from running import BACKUP, DONE, LIMIT, differs, run
+from running import BACKUP, DONE, LIMIT, LITTLE_MEMORY, differs, run
 
 MOST_BYTES = 268_435_456
-# A decoder that takes memory for what a count promises does not fit into this, and one for what was read does.
-LITTLE_MEMORY = 256 << 20
 
 
 def checks_rightly(data, **limits):

@@ -1,8 +1,9 @@
 """Calls of the system that fail: each call of a kind in turn fails, fails after it had its effect, or ends the process.
 
 A library that is loaded before the C library counts the calls of one kind, and does so to one of them. Wanted of a job
-are its own status and text, or the status of that fault and its line; of a peer alone, that it serves on or ends with
-that status, and that its files then have what they may have after a kill: see disks.py.
+are its own status and text, or the status of that fault and its line; of a restore, that the tree is then the old one or
+that of the backup; of a peer alone, that it serves on or ends with that status, and that its files then have what they
+may have after a kill: see disks.py.
 """
 import contextlib
 import functools
@@ -13,11 +14,12 @@ import subprocess
 import tempfile
 from pathlib import Path
 
-from backups import samples
-from disks import Puts
+from backups import item, samples
+from copies import items_of
+from disks import Images, Puts, prepare
 from formats import spell_backup
-from running import LINK_FAULT, MEMORY, READ_FAULT, STORE_FAULT, WRITE_FAULT, Ensemble, run
-from schedules import CHANGED, REVERTED
+from running import DONE, LINK_FAULT, MEMORY, READ_FAULT, STORE_FAULT, TOP, WRITE_FAULT, Ensemble, run
+from schedules import CHANGED, DEEPENED, REVERTED
 
 LIBRARY = r"""
 typedef unsigned long size_t;
@@ -30,6 +32,15 @@ extern void *__libc_malloc(size_t);
 extern void *__libc_realloc(void *, size_t);
 
 static long seen;
+
+/* Says at the end how many calls of this kind there were. */
+__attribute__((destructor)) static void tell(void) {
+    const char *name = getenv("HOSTILE_TOLD");
+    if (!name) return;
+    long file = syscall(2, name, 0101, 0600);
+    syscall(1, file, &seen, sizeof seen);
+    syscall(3, file);
+}
 
 /* Whether this call is the one, and then what becomes of it: 'f'ails, has its 'e'ffect and fails, or 'k'ills. */
 static char fate(const char *call) {
@@ -84,16 +95,46 @@ PEER_CALLS = {
     **dict.fromkeys(("socket", "bind", "poll", "sendto", "recvfrom"), LINK),
 }
 
-# Jobs with their inputs, and somewhat more allocations than each makes.
+CALLS = "tick 1 6\ncall 1 1 over 6b 76\ncall 1 2 get 6b\n"
+ALONE = "ensemble 1\npeers 1\nview 1\n" + CALLS
+
+# All three peers stop, one comes back without its last write, and all are asked.
+RESTARTED = """\
+ensemble 1
+peers 3
+view 1 2 3
+tick 1 6
+calm
+call 1 1 over 6b 76
+calm
+stop 1
+stop 2
+stop 3
+revert 3 1
+start 1
+start 2
+start 3
+tick 1 6
+calm
+call 1 2 get 6b
+calm
+"""
+
+# Jobs with their inputs. The input of an audit is made by a replay.
 JOBS = [
-    ("ensemble replay", REVERTED.encode(), 600),
-    ("ensemble replay", CHANGED.encode(), 2500),
-    ("ensemble generate 7 20 summary", b"", 4500),
-    ("ensemble generate 7 20 schedule", b"", 200),
-    ("ensemble cluster 1 40000 1", b"tick 1 6\ncall 1 1 over 6b 76\ncall 1 2 get 6b\n", 350),
-    ("ensemble check", spell_backup([item for items in samples() for item in items if len(items) > 60]), 1300),
-    ("ensemble audit", None, 250),
+    *[("ensemble replay", text.encode()) for text in (ALONE, RESTARTED, REVERTED, CHANGED, DEEPENED)],
+    ("ensemble replay", RESTARTED.replace("ensemble 1", "ensemble 3").encode()),
+    ("ensemble generate 7 20 summary", b""),
+    ("ensemble generate 7 20 schedule", b""),
+    ("ensemble cluster 1 40000 1", CALLS.encode()),
+    ("ensemble root", (TOP / "examples" / "a-root" / "script").read_bytes()),
+    ("ensemble check", spell_backup([item for items in samples() for item in items if len(items) > 60])),
+    ("ensemble audit", None),
+    ("trace", CHANGED.encode()),
+    ("chart", RESTARTED.encode()),
 ]
+# The entries and objects of a backup that is restored over a peer's files.
+BACKUP_ITEMS = [item(b"a", 9, b"1"), item(b"b", 9, None), item(b"e", 9, b"", has_object=False)]
 JOB_CALLS = {"memory": (MEMORY, "memory\n"), "read": (READ_FAULT, "read fault\n"), "write": (WRITE_FAULT, None)}
 
 
@@ -117,6 +158,14 @@ def failing(call, at, how):
     return {**os.environ, "LD_PRELOAD": str(library()), "HOSTILE_CALL": call, "HOSTILE_AT": str(at), "HOSTILE_HOW": how}
 
 
+def count_of(call, work):
+    """How many calls of this kind a process makes that is given this environment."""
+    with tempfile.TemporaryDirectory() as place:
+        told = Path(place) / "told"
+        work({**failing(call, 0, "f"), "HOSTILE_TOLD": str(told)})
+        return int.from_bytes(told.read_bytes(), "little")
+
+
 def job_ends_rightly(words, data, call, at, wanted):
     """What is wrong with a job of which one call fails, or None."""
     status, text = run(words, data, env=failing(call, at, "f"))
@@ -126,6 +175,30 @@ def job_ends_rightly(words, data, call, at, wanted):
     if line is None and status == fault and wanted[1].startswith(text):
         return None
     return f"wanted {fault} or {wanted[0]}, got {status}: {text[-200:]!r}"
+
+
+def works_rightly(word, data, images, call, at, how):
+    """What is wrong with a word on a peer's files of which one call fails or ends it, or None. The facts stay, and the
+    tree is the old one, or after a restore that of the backup."""
+    with Ensemble() as it:
+        it.put_back(images)
+        status, text = it.work(word, data, env=failing(call, at, how))
+        left = Images(*it.images())
+    trees = [tree_of(images), *([[entry for entry, _ in BACKUP_ITEMS]] if word == "restore" else [])]
+    if left.facts != images.facts or tree_of(left) not in trees:
+        return "the facts were changed, or the tree is neither the old one nor the new one"
+    fault, line = PEER_CALLS[call]
+    if (status, text) == (fault, line.encode()) or (how, status, text) == ("k", -9, b""):
+        return None
+    wanted = spell_backup(items_of(images)) if word == "backup" else b"entries 3 objects 2\n"
+    is_right = (status, text, tree_of(left)) == (DONE, wanted, trees[-1])
+    return None if is_right else f"got {status}: {text[-200:]!r}"
+
+
+def tree_of(images):
+    """The entries of the tree on these files, in order."""
+    items = items_of(images)
+    return None if items is None else [entry for entry, _ in items]
 
 
 def peer_ends_rightly(call, at, how):
@@ -144,6 +217,13 @@ def peer_ends_rightly(call, at, how):
         return writer.complaint()
 
 
+def count_of_work(call, word, data, images):
+    """How many calls of this kind a word on a peer's files makes."""
+    with Ensemble() as it:
+        it.put_back(images)
+        return count_of(call, lambda env: it.work(word, data, env=env))
+
+
 def places(chance, most, count):
     """The first numbers of calls, and some more."""
     return sorted({1, 2, 3, *(chance.randrange(4, most) for _ in range(count))})
@@ -154,14 +234,22 @@ def cases(long):
         print("hostile calls: no compiler, so no case")
         return
     chance = random.Random(59)
-    for words, data, allocations in JOBS:
+    for words, data in JOBS:
         if data is None:
             data = CHANGED.encode() + b"answers\n" + run("ensemble replay", CHANGED.encode())[1].encode()
         wanted = run(words, data)
         for call in JOB_CALLS:
-            every = range(1, allocations if call == "memory" else 9)
-            for at in every if long or call != "memory" else places(chance, allocations, 12):
+            most = 1 + count_of(call, lambda env, words=words, data=data: run(words, data, env=env))
+            for at in range(1, most + 1) if long or most < 12 else places(chance, most, 12):
                 yield f"{words}, {call} {at}", functools.partial(job_ends_rightly, words, data, call, at, wanted)
+    images, backup = prepare().after, spell_backup(BACKUP_ITEMS)
+    for word, data in [("backup", b""), ("restore", backup)]:
+        for call in ("memory", "pread", "pwrite", "sync", "open", "flock", "statx"):
+            most = 1 + count_of_work(call, word, data, images)
+            for how in "f" if call == "memory" else "fek":
+                for at in range(1, most + 1) if long or most < 6 else places(chance, most, 4):
+                    test = functools.partial(works_rightly, word, data, images, call, at, how)
+                    yield f"{word}, {call} {at} {how}", test
     for call in PEER_CALLS:
         most = {"pwrite": 120, "pread": 120, "sync": 60, "memory": 3000, "recvfrom": 900, "poll": 500}.get(call, 12)
         for how in ["f"] if call == "memory" else "fek":

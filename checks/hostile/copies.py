@@ -14,9 +14,9 @@ from formats import (
     build,
     entry_of,
     read_backup,
+    read_either_tree,
     read_log,
     read_object,
-    read_tree,
     spell_backup,
     spell_object,
 )
@@ -27,8 +27,7 @@ def items_of(images):
     """The entries of a tree, each with its object if the file of objects has it, or None where the tree is damaged."""
     nodes, objects = read_log(images.nodes)[0], read_log(images.objects)[0]
     root = nodes.get(b"", b"")
-    trees = [read_tree(nodes, root, version) for version in (1, 2)] if len(root) == 16 else []
-    entries = next((tree for tree in trees if tree is not None), None)
+    entries = read_either_tree(nodes, root) if len(root) == 16 else None
     return None if entries is None else [(entry, matching(entry, objects)) for _, entry in sorted(entries.items())]
 
 

@@ -2,8 +2,9 @@
 
 What a peer has to make of its files is what the readers of docs/formats.md say, by the rules of docs/protocol.md: a
 record of facts that is no fact ends it with `store fault`; files without a fact are those of a new peer; and a peer
-alone in its view serves exactly if its top record is the seal in its fact and every node of its tree verifies. Then a
-key has the value that its entry names, or is `lost` if the file of objects does not have it.
+alone in its view serves exactly if its top record is the seal in its fact, if that has one, and every node of its tree
+verifies, in either version. Then a key has the value that its entry names, or is `lost` if the file of objects does not
+have it.
 """
 import random
 import struct
@@ -15,11 +16,11 @@ from formats import (
     entry_of,
     md5,
     opening_fact,
+    read_either_tree,
     read_log,
     read_object,
     read_saved_fact,
     read_slots,
-    read_tree,
     spell_fact,
     spell_record,
     spell_slot,
@@ -81,7 +82,8 @@ def wanted_of(images):
     if slot[0] == GREATEST:
         return "store fault"
     nodes, objects = read_log(images.nodes)[0], read_log(images.objects)[0]
-    entries = read_tree(nodes, nodes.get(b"")) if nodes.get(b"") == fact.seal else None
+    root = nodes.get(b"")
+    entries = read_either_tree(nodes, root) if fact.seal in (None, root) else None
     if entries is None:
         return {key: "unavailable" for key in (*KEYS, UNTRIED)}
     return {key: answer_of(entries.get(key), objects.get(key)) for key in (*KEYS, UNTRIED)}

@@ -7,9 +7,12 @@ import hashlib
 import struct
 from typing import NamedTuple, Optional
 
-FIRST_SEGMENT_LEVEL = {1: 3, 2: 5}
+# By version: the level of the segments, and the tags of nodes. Peers that serve keep trees of version two.
+SEGMENT_LEVEL = {1: 3, 2: 5}
 INNER_TAG = {1: 1, 2: 3}
 SEGMENT_TAG = {1: 2, 2: 4}
+# The last level of a position in a frame.
+LAST_LEVEL = 5
 MOST_PEERS, MOST_NUMBERS = 31, 63
 FIRST_CLIENT = 32
 
@@ -95,7 +98,7 @@ def opening_fact(view, seal=None):
     return Fact((0, 0), (0, 0), 0, 0, (tuple(view),), (0,), seal)
 
 
-def spell_frame(kind, sender, receiver, body=b"", length=None, version=1):
+def spell_frame(kind, sender, receiver, body=b"", length=None, version=2):
     length = len(body) if length is None else length
     return struct.pack(">2sBBIIH", b"RE", version, kind, sender, receiver, length) + body
 
@@ -104,27 +107,32 @@ def entry_of(it):
     return it.key, it.version, md5(spell_object(it))
 
 
-def inner_node(position, mask, digests, version=1):
+def inner_node(position, mask, digests, version=2):
     return bytes([INNER_TAG[version]]) + spell_position(position) + struct.pack(">H", mask) + b"".join(digests)
 
 
-def segment_node(position, entries, version=1):
+def segment_node(position, entries, version=2):
     head = bytes([SEGMENT_TAG[version]]) + spell_position(position) + struct.pack(">I", len(entries))
     return head + b"".join(map(spell_entry, entries))
 
 
-def segment_of(key, version=1):
+def segment_of(key, version=2):
     """The index of the key's segment: the first 12 or 20 bits of its MD5."""
-    bits = 4 * FIRST_SEGMENT_LEVEL[version]
+    bits = 4 * SEGMENT_LEVEL[version]
     return int.from_bytes(md5(key), "big") >> (128 - bits)
 
 
-def build(entries, version=1):
+def build(entries, version=2):
     """The nodes of the plain tree of these entries, under their digests, and the digest of its root."""
-    level = FIRST_SEGMENT_LEVEL[version]
     segments = {}
     for entry in sorted(entries):
         segments.setdefault(segment_of(entry[0], version), []).append(entry)
+    return build_over(segments, version)
+
+
+def build_over(segments, version=2):
+    """The same of the entries of each segment, whichever stand there."""
+    level = SEGMENT_LEVEL[version]
     nodes = {index: segment_node((level, index), held, version) for index, held in segments.items()}
     stored = {md5(node): node for node in nodes.values()}
     while level > 0:
@@ -268,10 +276,10 @@ def read_object(data):
     return it
 
 
-def read_node(data, position, version=1):
+def read_node(data, position, version=2):
     """The children of an inner node, by number, or the entries of a segment."""
     reader = Reader(data)
-    is_segment = position[0] == FIRST_SEGMENT_LEVEL[version]
+    is_segment = position[0] == SEGMENT_LEVEL[version]
     reader.one_of([(SEGMENT_TAG if is_segment else INNER_TAG)[version]])
     if (reader.number(1), reader.number(4)) != position:
         raise Wrong("Position")
@@ -289,7 +297,7 @@ def read_frame(data):
     reader = Reader(data)
     header = reader.take(14)
     letters, version, kind, sender, receiver, length = struct.unpack(">2sBBIIH", header)
-    tests = {"Magic": letters == b"RE", "Version": version == 1, "Kind": 1 <= kind <= 19, "Length": length <= 4096}
+    tests = {"Magic": letters == b"RE", "Version": version == 2, "Kind": 1 <= kind <= 19, "Length": length <= 4096}
     for fault, is_right in tests.items():
         if not is_right:
             raise Wrong(fault)
@@ -311,7 +319,7 @@ def read_given(body):
         body.entries(body.one_of(range(33)))
         body.one_of((0, 1))
     else:
-        body.position(3)
+        body.position(LAST_LEVEL)
 
 
 def read_call(body):
@@ -343,7 +351,7 @@ def read_cause(body):
     if tag == 1:
         body.epoch()
     elif tag == 3:
-        body.position(3)
+        body.position(LAST_LEVEL)
 
 
 # For each kind of frame the parts of its body, as calls of a reader.
@@ -361,8 +369,8 @@ BODIES = {
     11: lambda it: (it.epoch(), it.key(), it.version()),
     12: lambda it: (it.epoch(), it.number(8)),
     13: lambda it: (it.epoch(), it.number(8)),
-    14: lambda it: (it.epoch(), it.position(3), it.option_key()),
-    15: lambda it: (it.epoch(), it.position(3), it.option_key(), it.one_of((0, 1)), read_given(it)),
+    14: lambda it: (it.epoch(), it.position(LAST_LEVEL), it.option_key()),
+    15: lambda it: (it.epoch(), it.position(LAST_LEVEL), it.option_key(), it.one_of((0, 1)), read_given(it)),
     16: lambda it: it.fact(),
     17: lambda it: it.epoch(),
     18: lambda it: (it.number(8), read_call(it)),
@@ -437,7 +445,7 @@ def read_log(data):
     return contents, at
 
 
-def read_tree(contents, root, version=1):
+def read_tree(contents, root, version=2):
     """The entries under this root by key, or None where a node on the way does not verify."""
     entries, waiting = {}, [((0, 0), root)]
     while waiting:
@@ -454,3 +462,9 @@ def read_tree(contents, root, version=1):
         else:
             entries.update((entry[0], entry) for entry in found)
     return entries
+
+
+def read_either_tree(contents, root):
+    """The entries under this root by key, in whichever version it verifies, or None where it verifies in neither."""
+    trees = (read_tree(contents, root, version) for version in SEGMENT_LEVEL)
+    return next((tree for tree in trees if tree is not None), None)

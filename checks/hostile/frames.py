@@ -36,7 +36,7 @@ KEY = spell_key(b"k")
 EPOCH, ROUND = spell_epoch((1, 2)), struct.pack(">Q", 1)
 OBJECT = Object((1, 2, 1), (1, 2, 1), b"k", b"v")
 FACT = opening_fact(VIEW)._replace(ballot=(1, 2), epoch=(1, 2), seq=1, leader=2)
-ROOT, LEAF = spell_position((0, 0)), spell_position((3, 4095))
+ROOT, LEAF = spell_position((0, 0)), spell_position((5, 2**20 - 1))
 ADDED = FACT._replace(seq=2, change=(1, (1, 2, 3)))
 ENTRY, STAMP, VALUE = spell_entry(entry_of(OBJECT)), spell_version((1, 2, 1)), spell_value(b"v")
 
@@ -142,7 +142,7 @@ def batches_of(data):
     yield batch
 
 
-def counts_rightly(data):
+def counts_rightly(data, **limits):
     """What is wrong with what a peer prints that was sent these datagrams, or None.
 
     After every few of them a call is sent, and its answer awaited: so none was lost before a socket that is full. Peer
@@ -151,7 +151,7 @@ def counts_rightly(data):
     batches = list(batches_of(data))
     taken = len(batches) + sum(is_taken(it, 1, PEERS) for it in data)
     with Ensemble(PEERS, VIEW) as it:
-        it.start(1, turns=len(data) + len(batches) + IDLE_TURNS)
+        it.start(1, turns=len(data) + len(batches) + IDLE_TURNS, **limits)
         it.client.peer = 1
         for number, batch in enumerate(batches):
             for datagram in batch:

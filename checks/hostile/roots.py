@@ -7,7 +7,7 @@ import random
 
 from formats import md5, spell_view
 from running import DONE, LIMIT, SCHEDULE, TOP, differs, run
-from schedules import SPLINTERS, hostile_line, with_words_of
+from schedules import SPLINTERS, hostile_line
 from texts import LINES, PEER, Bad, Call, Printed, Reading, fault, members, number, read_inner, read_words, take_lines
 
 SLOTS = 64
@@ -153,13 +153,23 @@ def hostile_script(seed, events):
     return "\n".join(lines) + "\n"
 
 
+def with_other_words(chance, text, count):
+    for _ in range(count):
+        lines = [line.split(" ") for line in text.splitlines()]
+        line = chance.choice(lines)
+        line[chance.randrange(len(line))] = chance.choice(WORDS)
+        if chance.randrange(3) == 0:
+            lines.insert(chance.randrange(len(lines)), list(chance.choice(lines)))
+        yield "".join(" ".join(line) + "\n" for line in lines)
+
+
 def cases(long):
     chance = random.Random(60)
     text = (TOP / "examples" / "a-root" / "script").read_text()
     found = [text[:size] for size in range(0, len(text), 1 if long else 3)] + [text]
     for at in chance.sample(range(len(text)), len(text) if long else 40):
         found.append(text[:at] + chance.choice(SPLINTERS).decode("latin-1") + text[at + 1 :])
-    found += with_words_of(chance, text, WORDS, 2000 if long else 80)
+    found += with_other_words(chance, text, 2000 if long else 80)
     found += [hostile_script(seed, 80) for seed in range(2000 if long else 60)]
     for data in found:
         yield repr(data[-60:]), lambda data=data: ends_rightly(data)

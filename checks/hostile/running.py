@@ -20,8 +20,10 @@ from client import GET, OVER, Client, spell_value  # noqa: E402
 DONE, USAGE, SCHEDULE, PREMISE, READ_FAULT, WRITE_FAULT = range(6)
 CLASH, STORE_FAULT, LINK_FAULT, LIMIT, MEMORY, BACKUP = 6, 7, 8, 9, 10, 12
 
-# Two gibibytes are enough for the largest input that any job accepts.
+# Two gibibytes are enough for the largest input that any job accepts. The program itself takes less than 16 MiB, so a
+# decoder that takes memory for what a count promises does not fit into 24.
 MOST_MEMORY = 2 << 30
+LITTLE_MEMORY = 24 << 20
 SECONDS = 120
 
 # Below the ports that the system gives to those who ask for any, in blocks of 64: those of one ensemble.
@@ -152,7 +154,7 @@ class Ensemble:
             process.kill()
             process.communicate()
 
-    def work(self, word, data=b"", peer=1):
+    def work(self, word, data=b"", peer=1, env=None):
         """The status and the bytes that a word writes which works on the files of a peer."""
         ran = subprocess.run(
             [program(), word],
@@ -160,6 +162,7 @@ class Ensemble:
             cwd=self.folder(peer),
             stdout=subprocess.PIPE,
             timeout=SECONDS,
+            env=env,
             preexec_fn=bounded(),
         )
         return ran.returncode, ran.stdout

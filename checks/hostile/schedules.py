@@ -60,6 +60,42 @@ call 4 3 get 6b
 calm
 """
 
+# The trees of three peers migrate, of which one is damaged and has a seal, and then all are asked.
+DEEPENED = """\
+ensemble 1
+peers 3
+view 1 2 3
+tick 1 6
+calm
+call 1 1 over 6b 76
+calm
+stop 1
+upgrade 2
+stop 2
+start 2
+tick 3 6
+calm
+call 3 2 over 6c 77
+calm
+start 1
+tick 3 1
+calm
+stop 1
+stop 2
+stop 3
+damage 1 6b 00
+deepen
+deliver 1
+start 1
+start 2
+start 3
+tick 2 6
+calm
+call 2 3 get 6b
+call 2 4 get 6c
+calm
+"""
+
 TEXTS = {
     REVERTED: "answer 1 14 ok 1.1.1\nanswer 2 21 value 1.1.1 76\nhistory 6b 1 2\n",
     CHANGED: "answer 1 4 ok 1.1.1\nchange 5 1 taken\nanswer 2 11 value 1.1.1 76\nanswer 3 17 value 1.1.1 76\n"
@@ -124,9 +160,6 @@ EDGES = [
     ("x" * 4401, 1),
 ]
 
-# The program itself takes some megabytes, and no line is kept that is too long.
-LITTLE = 48 << 20
-
 WORDS = (
     "ensemble peers view call tick deliver pass lose calm change stop start upgrade deepen spoil damage inner revert "
     "fail turn answers get once update append add swap over delete fact tree backend old new "
@@ -152,26 +185,9 @@ def has_text(data, wanted):
     return differs(run("ensemble replay", data.encode()), (DONE, wanted))
 
 
-def has_no_end(word):
-    """A line of 64 MiB without a line feed takes no more memory than its first bytes."""
-    endless = LEADS.encode() + bytes(64 << 20)
-    return differs(run(f"ensemble {word}", endless, memory=LITTLE), (SCHEDULE, "schedule 6 1\n"))
-
-
 def prefixes(text):
     """Each front of a text."""
     return [text[:size] for size in range(len(text) + 1)]
-
-
-def with_words_of(chance, text, words, count):
-    """The text with one of these words in place of a word, and in one of three with a line twice."""
-    for _ in range(count):
-        lines = [line.split(" ") for line in text.splitlines()]
-        line = chance.choice(lines)
-        line[chance.randrange(len(line))] = chance.choice(words)
-        if chance.randrange(3) == 0:
-            lines.insert(chance.randrange(len(lines)), list(chance.choice(lines)))
-        yield "".join(" ".join(line) + "\n" for line in lines)
 
 
 def with_other_bytes(chance, text, count):
@@ -202,6 +218,12 @@ def with_other_words(chance, text, count):
             elif len(lines) > 1:
                 lines.remove(line)
         yield "".join(" ".join(line) + "\n" for line in lines)
+
+
+def deepening(peers):
+    """Events in which all peers stop, and their trees migrate unless they did so before."""
+    every = range(1, peers + 1)
+    return [f"stop {peer}" for peer in every] + ["deepen"] + [f"start {peer}" for peer in every]
 
 
 def with_failures(text, form):
@@ -238,7 +260,7 @@ def hostile_line(chance, peers, calls):
         + 3 * [f"start {peer}", f"pass {peer} {other}"]
         + 2 * [f"fail {peer} {chance.choice(('fact', 'tree', 'backend'))} {chance.choice(('old', 'new'))}"]
         + 2 * [f"deliver {chance.randint(1, 200)}", f"spoil {peer} {key} {bad}", f"damage {peer} {key} {bad}"]
-        + [f"stop {peer}", f"revert {peer} {chance.randint(1, 4)}", f"inner {peer} {chance.randint(0, 3)} 0 {bad}"]
+        + [f"stop {peer}", f"revert {peer} {chance.randint(1, 4)}", f"inner {peer} {chance.randint(0, 4)} 0 {bad}"]
         + [f"lose {peer} {other}", f"upgrade {peer}", "deepen", "calm " + " ".join(map(str, members))]
         + [f"change {peer} " + " ".join(map(str, members))]
     )
@@ -249,24 +271,25 @@ def hostile_schedule(seed, events):
     chance = random.Random(seed)
     peers = chance.choice((1, 3, 3, 5))
     view = " ".join(map(str, range(1, peers + 1)))
-    lines = [f"ensemble {chance.choice((1, 2, 2, 3))}", f"peers {peers}", f"view {view}", "tick 1 6", "calm"]
-    lines += [hostile_line(chance, peers, number) for number in range(1, events)]
+    lines = [f"ensemble {chance.choice((1, 2, 3))}", f"peers {peers}", f"view {view}", "tick 1 6", "calm"]
+    for number in range(1, events):
+        lines += deepening(peers) if chance.randrange(40) == 0 else [hostile_line(chance, peers, number)]
     return "\n".join(lines) + "\n"
 
 
 def cases(long):
     chance = random.Random(51)
     examples = [path.read_text() for path in sorted(TOP.glob("examples/*/schedule"))]
-    texts = [CHANGED, REVERTED, *(examples if long else [])]
+    texts = [CHANGED, REVERTED, DEEPENED, *(examples if long else [])]
     for text, wanted in TEXTS.items():
         yield "the whole schedule", lambda text=text, wanted=wanted: has_text(text, wanted)
     found = [prefix for text in texts for prefix in prefixes(text)]
     found += [LEADS + line + "\n" for line, _ in EDGES]
-    for text in [CHANGED, REVERTED, *examples]:
+    for text in [CHANGED, REVERTED, DEEPENED, *examples]:
         found += with_other_bytes(chance, text, 300 if long else 12)
         found += with_other_words(chance, text, 300 if long else 12)
-    for form in (1, 2):
-        for text in (REVERTED, CHANGED):
+    for form in (1, 2, 3):
+        for text in (REVERTED, CHANGED, DEEPENED):
             failing = list(with_failures(text, form))
             found += failing if long else chance.sample(failing, 60)
     found += [hostile_schedule(seed, 90) for seed in range(4000 if long else 200)]
@@ -275,8 +298,6 @@ def cases(long):
         yield line[:40], lambda line=line, wanted=wanted: at_edge(line, wanted)
     for data in found:
         yield repr(data[-60:]), lambda data=data: ends_rightly(data)
-    for word in ("replay", "audit"):
-        yield "a line without an end", lambda word=word: has_no_end(word)
 
 
 def at_edge(line, wanted):

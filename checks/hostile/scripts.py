@@ -10,7 +10,7 @@ import threading
 
 from formats import spell_epoch, spell_frame
 from running import DONE, LIMIT, SCHEDULE, differs, free_port, program, run
-from schedules import SPLINTERS, with_words_of
+from schedules import SPLINTERS
 from texts import complaint_of_run, read_record, read_schedule, read_script, report
 
 ONE = """\
@@ -61,7 +61,7 @@ def complaint_of_record(text, script, members):
         return f"no record: {told.strip()}"
     schedule, _, behind = text.partition("answers\n")
     lines = schedule.splitlines()
-    head = ["ensemble 2", f"peers {members}", "view " + " ".join(map(str, range(1, members + 1)))]
+    head = ["ensemble 3", f"peers {members}", "view " + " ".join(map(str, range(1, members + 1)))]
     if lines[:3] != head:
         return f"the schedule begins with {lines[:3]}"
     kept = [line for line in lines[3:] if not line.startswith("deliver ")]
@@ -94,6 +94,16 @@ def takes_long(script):
     """Whether a script looks so often that a run takes long. A look waits for a millisecond."""
     words = [line.split(" ") for line in script.splitlines()]
     return sum(int(it[1]) for it in words if it[0] == "turn" and len(it) == 2 and it[1].isdigit()) > 300
+
+
+def with_other_words(chance, text, count):
+    for _ in range(count):
+        lines = [line.split(" ") for line in text.splitlines()]
+        line = chance.choice(lines)
+        line[chance.randrange(len(line))] = chance.choice(WORDS)
+        if chance.randrange(3) == 0:
+            lines.insert(chance.randrange(len(lines)), list(chance.choice(lines)))
+        yield "".join(" ".join(line) + "\n" for line in lines)
 
 
 def with_other_bytes(chance, text, count):
@@ -137,7 +147,7 @@ def follows_in_noise(seed):
 def cases(long):
     chance = random.Random(54)
     texts = [ONE, *(ONE[:size] for size in range(0, len(ONE), 1 if long else 3))]
-    texts += with_words_of(chance, ONE, WORDS, 1500 if long else 60)
+    texts += with_other_words(chance, ONE, 1500 if long else 60)
     texts += with_other_bytes(chance, ONE, 800 if long else 30)
     for text in texts:
         if not takes_long(text):
