@@ -13,7 +13,7 @@ from typing import NamedTuple, Optional
 # A frame is a header of 14 bytes and a body. The header has the letters RE, the version of the format, the kind of the
 # frame, the numbers of the sender and of the receiver, and the length of the body; all numbers are big-endian.
 HEADER = struct.Struct(">2sBBIIH")
-VERSION = 1
+VERSION = 2
 CALL, ANSWER = 18, 19
 
 # The bodies of both kinds begin with the id of the call, 8 bytes, and then a tag.
