@@ -1,0 +1,17 @@
+ghost use Rattle.std.specs.Prelude.{List};
+ghost use Rattle.life_refinement.specs.Laws.{AreLegal, IsRunOfProtocol, WereGiven};
+ghost use Rattle.peer_lives.specs.Moments.{Group};
+ghost use Rattle.peer_lives.specs.Premises.{IsSound};
+ghost use Rattle.register_model.specs.declared.answer.Answer.{Answer};
+
+/// The processes of a group that meets the premises are one run of the abstract protocol, in whatever
+/// order their moments come.
+pub fn groups_refine_the_protocol()
+    ensures { (g : Group) → IsSound g → IsRunOfProtocol g }
+{}
+
+/// So for every key the order that follows from the notes is a legal history of the calls that came
+/// and of any of the answers that were given: those that were heard, for one.
+pub fn groups_have_legal_histories()
+    ensures { (g : Group) → IsSound g → (heard : List Answer) → WereGiven g heard → AreLegal g heard }
+{}

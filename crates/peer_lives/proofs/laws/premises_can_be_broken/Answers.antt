@@ -1,0 +1,11 @@
+use Rattle.peer_lives.proofs.Lone.{unsent_breaks, second_breaks, lost_breaks}
+use Rattle.peer_lives.proofs.laws.premises_can_be_broken.Goals as goal
+
+pub returns-clause-unsent : goal.returns-clause-unsent
+returns-clause-unsent c = unsent_breaks
+
+pub returns-clause-second : goal.returns-clause-second
+returns-clause-second c = second_breaks
+
+pub returns-clause-lost : goal.returns-clause-lost
+returns-clause-lost c = lost_breaks
