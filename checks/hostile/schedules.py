@@ -60,7 +60,7 @@ call 4 3 get 6b
 calm
 """
 
-# The trees of three peers migrate, of which one is damaged and has a seal, and then all are asked.
+# The trees of three peers migrate, of which one has a seal by then, and serve on.
 DEEPENED = """\
 ensemble 1
 peers 3
@@ -68,22 +68,18 @@ view 1 2 3
 tick 1 6
 calm
 call 1 1 over 6b 76
+call 1 2 over 6c 77
 calm
-stop 1
 upgrade 2
 stop 2
 start 2
-tick 3 6
+tick 1 6
 calm
-call 3 2 over 6c 77
-calm
-start 1
-tick 3 1
+tick 1 1
 calm
 stop 1
 stop 2
 stop 3
-damage 1 6b 00
 deepen
 deliver 1
 start 1
