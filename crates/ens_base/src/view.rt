@@ -20,11 +20,11 @@ pub enum ViewError {
     Order,
 }
 
-/// A view: 1 to 9 peers. Contracts see the ascending list of their numbers.
+/// A view: 1 to 9 peers, in ten bytes. Contracts see the ascending list of their numbers.
 #[derive(Clone, Copy, Debug, PartialEq, Eq)]
 pub struct View {
-    buf: [PeerId; 9],
-    len: usize,
+    buf: [u8; 9],
+    len: u8,
 }
 
 impl Model for View {
@@ -79,29 +79,36 @@ impl View {
         if !ascends(members) {
             return Err(ViewError::Order);
         }
-        let mut buf = [PeerId(0); 9];
-        buf[..members.len()].copy_from_slice(members);
+        let mut buf = [0; 9];
+        for i in 0..members.len() {
+            buf[i] = members[i].number() as u8;
+        }
         Ok(View {
             buf,
-            len: members.len(),
+            len: members.len() as u8,
         })
     }
 
     /// The greatest number of members.
     pub const MOST: usize = 9;
 
-    /// Returns the members in ascending order.
-    pub fn members(&self) -> &[PeerId]
+    /// Returns the numbers of the members in ascending order.
+    pub fn members(&self) -> &[u8]
         ensures members { result.now ≡ self.now }
         ensures view { IsView self.now }
     {
-        &self.buf[..self.len]
+        &self.buf[..self.len as usize]
     }
 
     /// Returns whether `peer` is a member.
     pub fn has(&self, peer: PeerId) -> bool
-        ensures { IsTrue result ↔ Contains self.now peer }
+        ensures member { IsTrue result ↔ Contains self.now peer }
+        ensures view { IsView self.now }
     {
-        self.members().contains(&peer)
+        let members = self.members();
+        match u8::try_from(peer.0) {
+            Ok(number) => members.contains(&number),
+            Err(_) => false,
+        }
     }
 }

@@ -48,10 +48,11 @@ length-members [] = refl
 length-members (m ∷ ms) = omega (arith, length-members ms, length-append (big_bytes 4 m) (flat_map (big_bytes 4) ms), length-bytes_high_first 4 m)
 
 -- one member more was written
-pub written_more : (old mid new members : List ℕ) (at place i m x after : ℕ) → i < length members → m ≡ get_or members i m → x ≡ m
+pub written_more : (old mid new members : List ℕ) (at place i x after : ℕ) → i < length members → x ≡ get_or members i 0
     → Writes old mid at (length members ∷ flat_map (big_bytes 4) (take i members)) place → Writes mid new place (big_bytes 4 x) after
     → Writes old new at (length members ∷ flat_map (big_bytes 4) (take (i + 1) members)) after
-written_more old mid new members at place i m x after lt is same before here =
-    let front : take (i + 1) members ≡ take i members ++ m ∷ [] = take_more members i m lt ∙ ap (λ (y : ℕ). take i members ++ y ∷ []) (sym is) in
+written_more old mid new members at place i x after lt is before here =
+    let m = get_or members i 0 in
+    let front : take (i + 1) members ≡ take i members ++ m ∷ [] = take_more members i 0 lt in
     let spelled : flat_map (big_bytes 4) (take i members) ++ big_bytes 4 m ≡ flat_map (big_bytes 4) (take (i + 1) members) = flat_map_more (big_bytes 4) [] (take i members) m ∙ ap (flat_map (big_bytes 4)) (sym front) in
-    subst (λ (l : List ℕ). Writes old new at (length members ∷ l) after) spelled (Writes-then old mid new at (length members ∷ flat_map (big_bytes 4) (take i members)) place (big_bytes 4 m) after before (subst (λ (n : ℕ). Writes mid new place (big_bytes 4 n) after) same here))
+    subst (λ (l : List ℕ). Writes old new at (length members ∷ l) after) spelled (Writes-then old mid new at (length members ∷ flat_map (big_bytes 4) (take i members)) place (big_bytes 4 m) after before (subst (λ (n : ℕ). Writes mid new place (big_bytes 4 n) after) is here))

@@ -108,7 +108,7 @@ pub fn write_view(x: &View, out: &mut [u8], at: usize) -> usize
     let members = x.members();
     let mut place = write_u8(members.len() as u8, out, at);
     for member in members {
-        place = write_u32(member.number(), out, place);
+        place = write_u32(u32::from(*member), out, place);
     }
     place
 }

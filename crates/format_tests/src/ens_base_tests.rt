@@ -18,7 +18,7 @@ fn keys_values_views_and_sets_have_their_limits(rt: HostRuntime) -> Result<(), F
     assert!(rt; View::new(&[PeerId(2), PeerId(2)]).err() == Some(ViewError::Order));
     let old = View::new(&[PeerId(1), PeerId(31)])?;
     let two = Views::two(View::new(&[PeerId(4)])?, old);
-    assert!(rt; two.first().members() == [PeerId(4)].as_slice() && two.second() == Some(old));
+    assert!(rt; two.first().members() == [4].as_slice() && two.second() == Some(old));
     let mut peers = PeerSet::empty();
     peers.insert(PeerId(31));
     assert!(rt; peers.has(PeerId(31)) && !peers.has(PeerId(63)));

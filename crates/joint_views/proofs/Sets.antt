@@ -4,9 +4,10 @@ use Rattle.ens_base.specs.Lists.{is_in}
 use Rattle.std.proofs.Common.{◌≡◌, ℕ, zero, suc, ◌+◌, ◌<◌, ◌≤◌, Bool, true, false, ◌==◌, List, [], ◌∷◌, ◌++◌, length, take, get_or, ◌⊎◌, inl, inr, arith, refl, sym, ap, ◌∙◌}
 use Rattle.std.proofs.lemmas.Bool.{cases_lt}
 use Rattle.std.proofs.lemmas.Bool.Decides.{nat_tests}
-use Rattle.std.proofs.lemmas.List.{length-set, ext_get_or, take_more, get_or-replicate, get_or_past}
+use Rattle.std.proofs.lemmas.List.{length-set, ext_get_or, take_more, get_or-replicate, get_or_past, get_or_default}
 use Rattle.std.proofs.lemmas.List.FromFn.{get_or-map-range_with_len}
 use Rattle.ens_base.specs.PeerSet.{holds}
+use Rattle.ens_base.specs.View.{IsView}
 use Rattle.joint_views.specs.Members.{those, members}
 use Rattle.joint_views.specs.Quorums.{is_member}
 
@@ -32,12 +33,19 @@ none_more new old m low o n = grind (arith, nat_tests)
 more_at : (new old in_more in_view here before : Bool) → old ≡ (in_view || before) → new ≡ (here || old) → in_more ≡ (here || in_view) → new ≡ (in_more || before)
 more_at new old in_more in_view here before o n m = grind (arith, nat_tests)
 
-pub joined_more : (view : List ℕ) (k m : ℕ) (before set now : List Bool) → k < length view → 1 ≤ m → HasJoined (take k view) before set → m ≡ get_or view k m → now ≡ slice_set set m true → ((p : ℕ) → holds now p ≡ (p == m || holds set p)) → HasJoined (take (k + 1) view) before now
+joined_more : (view : List ℕ) (k m : ℕ) (before set now : List Bool) → k < length view → 1 ≤ m → HasJoined (take k view) before set → m ≡ get_or view k m → now ≡ slice_set set m true → ((p : ℕ) → holds now p ≡ (p == m || holds set p)) → HasJoined (take (k + 1) view) before now
 joined_more view k m before set now h low j at e members = rw (take_more view k m h) (rw (sym at) (record {
   size = rw e (length-set set m true ∙ j.size);
   at = λ p. more_at (holds now p) (holds set p) _ _ (p == m) (holds before p) (j.at p) (members p) (in_end (take k view) m p);
   none = λ h. none_more (holds now 0) (holds set 0) m low (j.none h) (members 0);
 }))
+
+-- one more member of a view, whose members a loop takes from a list
+pub member_more : (view items : List ℕ) (k m : ℕ) (before set now : List Bool) → IsView view → items ≡ view → k < length items → HasJoined (take k view) before set → m ≡ get_or items k 0 → now ≡ slice_set set m true → ((p : ℕ) → holds now p ≡ (p == m || holds set p)) → HasJoined (take (k + 1) view) before now
+member_more view items k m before set now are same h j at e members =
+    let below : k < length view = rw (sym same) h in
+    let read : m ≡ get_or view k m = at ∙ get_or_default items k 0 m h ∙ ap (λ xs. get_or xs k m) same in
+    joined_more view k m before set now below (omega (arith, (are.peers k m below).0, read)) j read e members
 
 all_at : (test : ℕ → Bool) (set : List Bool) → ((p : ℕ) → holds set p ≡ test p) → test 0 ≡ false → (p : ℕ) → p < 32 → holds set p ≡ holds (those test) p
 all_at test set at none zero h = at 0 ∙ none

@@ -20,7 +20,10 @@ fn is_majority(votes: &PeerSet, view: &View) -> bool
     ensures { result ≡ is_majority (holds votes.now) view.now }
 {
     let members = view.members();
-    let voted = members.iter().filter(|m| votes.has(**m)).count();
+    let voted = members
+        .iter()
+        .filter(|m| votes.has(PeerId(u32::from(**m))))
+        .count();
     voted > members.len() / 2
 }
 
@@ -28,7 +31,9 @@ fn has_all(votes: &PeerSet, view: &View) -> bool
     ensures test { result ≡ has_all_of (holds votes.now) view.now }
     ensures all { IsTrue result ↔ HasAll (holds votes.now) view.now }
 {
-    view.members().iter().all(|m| votes.has(*m))
+    view.members()
+        .iter()
+        .all(|m| votes.has(PeerId(u32::from(*m))))
 }
 
 /// Returns whether the peer is a member of the view.
@@ -36,7 +41,7 @@ pub fn is_in(view: &View, peer: PeerId) -> bool
     ensures member { result ≡ is_in_list view.now peer }
     ensures range { IsTrue result → (1 ≤ peer) × (peer ≤ 31) }
 {
-    view.members().contains(&peer)
+    view.has(peer)
 }
 
 /// Returns the set with the members of the view added.
@@ -47,7 +52,7 @@ fn with_view(set: PeerSet, view: &View) -> PeerSet
 {
     let mut all = set;
     for member in view.members() {
-        all.insert(*member);
+        all.insert(PeerId(u32::from(*member)));
     }
     all
 }

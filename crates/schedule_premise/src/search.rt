@@ -5,7 +5,7 @@ ghost use Rattle.schedule_text.specs.Spelling.{IsSchedule};
 ghost use Rattle.schedule_premise.specs.Premise.{changed_views, fails as fails_premise, first_unsound, is_reverted, views_named, views_of_line};
 
 use crate::reverts::reverted_peers;
-use ens_base::{PeerSet, View};
+use ens_base::{PeerId, PeerSet, View};
 use schedule_text::{Schedule, ScheduleEvent};
 
 /// A view that fails the premise, and the peers that the schedule reverts.
@@ -22,7 +22,10 @@ fn fails(reverted: &PeerSet, view: &View) -> bool
     ensures { result ≡ fails_premise (holds reverted.now) view.now }
 {
     let members = view.members();
-    let kept = members.iter().filter(|m| !reverted.has(**m)).count();
+    let kept = members
+        .iter()
+        .filter(|m| !reverted.has(PeerId(u32::from(**m))))
+        .count();
     kept <= members.len() / 2
 }
 

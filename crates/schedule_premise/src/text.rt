@@ -10,15 +10,14 @@ use ens_base::{PeerId, PeerSet};
 use std::alloc::{AllocError, Global};
 
 /// Appends a space and the number of a peer.
-fn push_member(text: &mut String, member: PeerId) -> Result<(), AllocError>
+fn push_member(text: &mut String, member: u8) -> Result<(), AllocError>
     ensures { OnOk result (string_bytes text.new ≡ string_bytes text.old ++ spaced (member_words (member ∷ []))) }
 {
-    let number = member.number();
-    write!(text, " {number}")
+    write!(text, " {member}")
 }
 
 /// Appends the members, each after a space.
-fn push_members(text: &mut String, members: &[PeerId]) -> Result<(), AllocError>
+fn push_members(text: &mut String, members: &[u8]) -> Result<(), AllocError>
     ensures { OnOk result (string_bytes text.new ≡ string_bytes text.old ++ spaced (member_words members.now)) }
 {
     for member in members {
@@ -28,11 +27,11 @@ fn push_members(text: &mut String, members: &[PeerId]) -> Result<(), AllocError>
 }
 
 /// Appends the members that are in the set, each after a space.
-fn push_members_in(text: &mut String, members: &[PeerId], set: &PeerSet) -> Result<(), AllocError>
+fn push_members_in(text: &mut String, members: &[u8], set: &PeerSet) -> Result<(), AllocError>
     ensures { OnOk result (string_bytes text.new ≡ string_bytes text.old ++ spaced (member_words (filter (holds set.now) members.now))) }
 {
     for member in members {
-        if set.has(*member) {
+        if set.has(PeerId(u32::from(*member))) {
             push_member(text, *member)?;
         }
     }

@@ -292,7 +292,7 @@ words_read peers (first ∷ words) event few h =
     let read = keyword_read peers k.0 words event few k.2 in
     ((λ i. word i ∷ words) ∙ read.0, read.1)
 
-short_enough : {A : Type 0} (b : Bool) (r : Result A Cause) (y : A) → (if b then Err TooLong else r) ≡ Ok y → r ≡ Ok y
+pub short_enough : {A : Type 0} (b : Bool) (r : Result A Cause) (y : A) → (if b then Err TooLong else r) ≡ Ok y → r ≡ Ok y
 short_enough true r y h = cc h
 short_enough false r y h = h
 

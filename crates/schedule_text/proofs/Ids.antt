@@ -23,13 +23,13 @@ not_called id (Call peer i key command ∷ more) h (inl e) =
 not_called id (Call peer i key command ∷ more) h (inr m) = let parts = or_parts (i == id) _ h in not_called id more parts.1 m
 not_called id (_ ∷ more) h m = not_called id more h m
 
-in_end : {A : Type 0} (x y : A) (xs : List A) → x ∈ (xs ++ y ∷ []) → (x ∈ xs) ⊎ (x ≡ y)
+pub in_end : {A : Type 0} (x y : A) (xs : List A) → x ∈ (xs ++ y ∷ []) → (x ∈ xs) ⊎ (x ≡ y)
 in_end x y [] (inl e) = inr e
 in_end x y [] (inr m) = absurd m
 in_end x y (z ∷ zs) (inl e) = inl (inl e)
 in_end x y (z ∷ zs) (inr m) = elim (in_end x y zs m) [ inl k ↦ inl (inr k) | inr e ↦ inr e ]
 
-distinct_end : {A : Type 0} (y : A) (xs : List A) → AreDistinct xs → ¬ (y ∈ xs) → AreDistinct (xs ++ y ∷ [])
+pub distinct_end : {A : Type 0} (y : A) (xs : List A) → AreDistinct xs → ¬ (y ∈ xs) → AreDistinct (xs ++ y ∷ [])
 distinct_end y [] h k = (λ m. m, tt)
 distinct_end y (x ∷ xs) h k =
     (λ m. elim (in_end x y xs m) [ inl n ↦ h.0 n | inr e ↦ k (inl (sym e)) ], distinct_end y xs h.1 (λ m. k (inr m)))
@@ -74,7 +74,7 @@ distinct_with events (Fail a b c) h k = rw (call_ids-no_call events (Fail a b c)
 
 -- ---- and the other way
 
-id_among : (events more : List ScheduleEvent) (peer id : ℕ) (key : List ℕ) (command : Command) → id ∈ call_ids (events ++ Call peer id key command ∷ more)
+pub id_among : (events more : List ScheduleEvent) (peer id : ℕ) (key : List ℕ) (command : Command) → id ∈ call_ids (events ++ Call peer id key command ∷ more)
 id_among [] more peer id key command = inl refl
 id_among (Call p i k c ∷ events) more peer id key command = inr (id_among events more peer id key command)
 id_among (_ ∷ events) more peer id key command = id_among events more peer id key command

@@ -291,7 +291,7 @@ parts_again : (words : List (List ℕ)) → 0 < length words → AreWords 32 wor
 parts_again [] h k = absurd (omega arith)
 parts_again (w ∷ more) h k = parts_of-join 32 w more k
 
-some_words : (event : ScheduleEvent) → 0 < length (event_words event)
+pub some_words : (event : ScheduleEvent) → 0 < length (event_words event)
 some_words (Call peer id key command) = omega arith
 some_words (Tick peer ticks) = omega arith
 some_words (Deliver message) = omega arith

@@ -14,7 +14,7 @@ use Rattle.schedule_text.specs.declared.error.ScheduleError.TheVariants.{Bad, Li
 use Rattle.schedule_text.specs.declared.schedule.Schedule.{Schedule}
 
 -- there is at least one part
-parts_of_some : (at : ℕ) (text : List ℕ) → (first : List ℕ) × (more : List (List ℕ)) × (parts_of at text ≡ first ∷ more)
+pub parts_of_some : (at : ℕ) (text : List ℕ) → (first : List ℕ) × (more : List (List ℕ)) × (parts_of at text ≡ first ∷ more)
 parts_of_some at [] = ([], [], refl)
 parts_of_some at (x ∷ xs) = by (x == at) (parts_of_some at xs)
   where
@@ -31,7 +31,7 @@ read_parts-line p text rest =
     ap (λ (ps : List (List ℕ)). read_parts p (text ∷ ps)) some.2 ∙ sym (ap (λ (ps : List (List ℕ)). and_then (next_line p text) (λ q. read_parts q ps)) some.2)
 
 -- the place of the first line feed
-feed_place : (text : List ℕ) (n : ℕ) (b : Bool) (o : Option ℕ) → nat_lt n (length text) ≡ b → cond b (Some n) None ≡ o
+pub feed_place : (text : List ℕ) (n : ℕ) (b : Bool) (o : Option ℕ) → nat_lt n (length text) ≡ b → cond b (Some n) None ≡ o
     → MatchOption o (length text ≤ n) (λ at. (at ≡ n) × (n < length text))
 feed_place text n true (Some at) e h = let same : n ≡ at = cc h in (sym same, grind (arith, nat_tests))
 feed_place text n true None e h = cc h

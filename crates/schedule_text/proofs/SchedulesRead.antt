@@ -28,7 +28,7 @@ use Rattle.schedule_text.specs.declared.error.ScheduleError.{ScheduleError}
 use Rattle.schedule_text.specs.declared.error.ScheduleError.TheVariants.{Lines}
 use Rattle.schedule_text.specs.declared.event.ScheduleEvent.{ScheduleEvent}
 use Rattle.schedule_text.specs.declared.schedule.Schedule.{Schedule}
-use Rattle.schedule_text.proofs.EventsRead.{event_of-ok}
+use Rattle.schedule_text.proofs.EventsRead.{event_of-ok, short_enough}
 use Rattle.schedule_text.proofs.Ids.{distinct_with}
 use Rattle.schedule_text.proofs.Lookups.{find_word}
 
@@ -48,18 +48,18 @@ IsSound (Running form peers view events) = IsSchedule (record { form = form; pee
 
 -- ---- the heading
 
-heading_ok : {A : Type 0} (r : Result A Cause) (x : A) → heading r ≡ Ok x → r ≡ Ok x
+pub heading_ok : {A : Type 0} (r : Result A Cause) (x : A) → heading r ≡ Ok x → r ≡ Ok x
 heading_ok (Ok y) x h = h
 heading_ok (Err e) x h = cc h
 
-if_heading : {A : Type 0} (b : Bool) (r : Result A Cause) (x : A) → (if b then r else Err Heading) ≡ Ok x → (b ≡ true) × (r ≡ Ok x)
+pub if_heading : {A : Type 0} (b : Bool) (r : Result A Cause) (x : A) → (if b then r else Err Heading) ≡ Ok x → (b ≡ true) × (r ≡ Ok x)
 if_heading true r x h = (refl, h)
 if_heading false r x h = cc h
 
-joined : (text : List ℕ) (words : List (List ℕ)) → words_of text ≡ words → text ≡ join_with_byte 32 words
+pub joined : (text : List ℕ) (words : List (List ℕ)) → words_of text ≡ words → text ≡ join_with_byte 32 words
 joined text words h = sym (join_with_byte-slice_split 32 text) ∙ ap (join_with_byte 32) h
 
-peers_of-ok : (words : List (List ℕ)) (peers : ℕ) → peers_of words ≡ Ok peers → (words ≡ codes "peers" ∷ decimal peers ∷ []) × (1 ≤ peers) × (peers ≤ 31)
+pub peers_of-ok : (words : List (List ℕ)) (peers : ℕ) → peers_of words ≡ Ok peers → (words ≡ codes "peers" ∷ decimal peers ∷ []) × (1 ≤ peers) × (peers ≤ 31)
 peers_of-ok [] peers h = cc h
 peers_of-ok (a ∷ []) peers h = cc h
 peers_of-ok (a ∷ b ∷ []) peers h =
@@ -69,7 +69,7 @@ peers_of-ok (a ∷ b ∷ []) peers h =
     ((λ i. first i ∷ number.0 i ∷ []), number.1, number.2)
 peers_of-ok (a ∷ b ∷ c ∷ more) peers h = cc h
 
-opening_of-ok : (peers : ℕ) (words : List (List ℕ)) (view : List ℕ) → peers ≤ 31 → opening_of peers words ≡ Ok view
+pub opening_of-ok : (peers : ℕ) (words : List (List ℕ)) (view : List ℕ) → peers ≤ 31 → opening_of peers words ≡ Ok view
     → (words ≡ codes "view" ∷ member_words view) × (AreMembers peers view × IsView view)
 opening_of-ok peers [] view few h = cc h
 opening_of-ok peers (a ∷ members) view few h =
@@ -88,7 +88,7 @@ map-end : (events : List ScheduleEvent) (event : ScheduleEvent) → map event_li
 map-end [] event = refl
 map-end (e ∷ more) event = ap (λ (ls : List (List ℕ)). event_line e ∷ ls) (map-end more event)
 
-if_repeated : (b : Bool) (x y : Progress) → (if b then Err Repeated else Ok x) ≡ Ok y → (b ≡ false) × (x ≡ y)
+pub if_repeated : (b : Bool) (x y : Progress) → (if b then Err Repeated else Ok x) ≡ Ok y → (b ≡ false) × (x ≡ y)
 if_repeated true x y h = cc h
 if_repeated false x y h = (refl, ok_same h)
 
@@ -128,26 +128,22 @@ sound_few (Titled form) h = omega arith
 sound_few (Counted form peers) h = omega arith
 sound_few (Running form peers view events) h = let few : length events + 3 ≤ 200000 = h.lines in omega arith
 
-at_line_ok : {A : Type 0} (n : ℕ) (r : Result A Cause) (x : A) → at_line n r ≡ Ok x → r ≡ Ok x
+pub at_line_ok : {A : Type 0} (n : ℕ) (r : Result A Cause) (x : A) → at_line n r ≡ Ok x → r ≡ Ok x
 at_line_ok n (Ok y) x h = let same : y ≡ x = cc h in ap Ok same
 at_line_ok n (Err e) x h = cc h
 
-unless_lines : {A : Type 0} (b : Bool) (r : Result A ScheduleError) (x : A) → (if b then Err Lines else r) ≡ Ok x → (b ≡ false) × (r ≡ Ok x)
+pub unless_lines : {A : Type 0} (b : Bool) (r : Result A ScheduleError) (x : A) → (if b then Err Lines else r) ≡ Ok x → (b ≡ false) × (r ≡ Ok x)
 unless_lines true r x h = cc h
 unless_lines false r x h = (refl, h)
 
-unless_long : {A : Type 0} (b : Bool) (r : Result A Cause) (x : A) → (if b then Err TooLong else r) ≡ Ok x → r ≡ Ok x
-unless_long true r x h = cc h
-unless_long false r x h = h
-
-not_last : (n : ℕ) → (n == most_lines) ≡ false → n ≤ 200000 → n < 200000
+pub not_last : (n : ℕ) → (n == most_lines) ≡ false → n ≤ 200000 → n < 200000
 not_last n h k = grind (arith, nat_tests)
 
 next_line-ok : (p q : Progress) (text : List ℕ) → IsSound p → next_line p text ≡ Ok q → IsSound q × (lines_read q ≡ lines_read p ++ text ∷ [])
 next_line-ok p q text sound h =
     let parts = unless_lines (lines_so_far p == most_lines) (at_next p (bounded text (with_line p text))) q h in
     let within = at_line_ok (lines_so_far p + 1) (bounded text (with_line p text)) q parts.1 in
-    with_line-ok p q text sound (not_last (lines_so_far p) parts.0 (sound_few p sound)) (unless_long (nat_lt line_limit (length text)) (with_line p text) q within)
+    with_line-ok p q text sound (not_last (lines_so_far p) parts.0 (sound_few p sound)) (short_enough (nat_lt line_limit (length text)) (with_line p text) q within)
 
 -- ---- the end
 
@@ -157,7 +153,7 @@ finished-ok (Titled form) s sound h = cc h
 finished-ok (Counted form peers) s sound h = cc h
 finished-ok (Running form peers view events) s sound h = rw (← (ok_same h)) (sound, refl)
 
-bounded_err : {A : Type 0} (text : List ℕ) (cause : Cause) (x : A) → bounded text (Err cause) ≡ Ok x → ⊥
+pub bounded_err : {A : Type 0} (text : List ℕ) (cause : Cause) (x : A) → bounded text (Err cause) ≡ Ok x → ⊥
 bounded_err {A = A} text cause x h = by (nat_lt line_limit (length text)) h
   where
     by : (b : Bool) → (if b then Err TooLong else Err cause) ≡ Ok x → ⊥
@@ -172,12 +168,12 @@ ended-ok p (b ∷ rest) s sound h =
     let parts = unless_lines (lines_so_far p == most_lines) (at_next p (bounded (b ∷ rest) (Err Unfinished))) s h in
     absurd (bounded_err (b ∷ rest) Unfinished s (at_line_ok (lines_so_far p + 1) (bounded (b ∷ rest) (Err Unfinished)) s parts.1))
 
-and_then_ok : (r : Result Progress ScheduleError) (f : Progress → Result Schedule ScheduleError) (s : Schedule) → and_then r f ≡ Ok s
+pub and_then_ok : (r : Result Progress ScheduleError) (f : Progress → Result Schedule ScheduleError) (s : Schedule) → and_then r f ≡ Ok s
     → (q : Progress) × (r ≡ Ok q) × (f q ≡ Ok s)
 and_then_ok (Ok q) f s h = (q, refl, h)
 and_then_ok (Err e) f s h = cc h
 
-feeds-end : (lines : List (List ℕ)) (text rest : List ℕ) → feeds (lines ++ text ∷ []) ++ rest ≡ feeds lines ++ (text ++ (10 ∷ rest))
+pub feeds-end : (lines : List (List ℕ)) (text rest : List ℕ) → feeds (lines ++ text ∷ []) ++ rest ≡ feeds lines ++ (text ++ (10 ∷ rest))
 feeds-end lines text rest = ap (λ (ls : List ℕ). ls ++ rest) (flat_map-append feed lines (text ∷ [])) ∙ simp (append_assoc, append-nil)
 
 parts_read : (p : Progress) (parts : List (List ℕ)) (s : Schedule) → IsSound p → read_parts p parts ≡ Ok s

@@ -78,6 +78,16 @@ fn push_members(out: &mut String, members: &[PeerId]) -> Result<(), AllocError>
     Ok(())
 }
 
+// The members of the view, each behind a space.
+fn push_members_of(out: &mut String, view: &View) -> Result<(), AllocError>
+    ensures { OnOk result (string_bytes out.new ≡ string_bytes out.old ++ spaced (member_words view.now)) }
+{
+    for member in view.members() {
+        push_number(out, u64::from(*member))?;
+    }
+    Ok(())
+}
+
 // A line of a keyword and numbers.
 fn push_numbers(out: &mut String, keyword: &str, numbers: &[u64]) -> Result<(), AllocError>
     ensures { OnOk result (string_bytes out.new ≡ string_bytes out.old ++ join_with_byte 32 (keyword.now ∷ map decimal numbers.now)) }
@@ -193,11 +203,12 @@ fn push_fail(
 }
 
 // The line of a change of view.
+#[tactic(auto, using(crate::proofs::Spaced::append_join))]
 fn push_change(out: &mut String, peer: PeerId, view: &View) -> Result<(), AllocError>
     ensures { OnOk result (string_bytes out.new ≡ string_bytes out.old ++ event_line (Change peer view.now)) }
 {
     push_numbers(out, Keyword::Change.word(), &[u64::from(peer.number())])?;
-    push_members(out, view.members())
+    push_members_of(out, view)
 }
 
 // The line of a calm among members.
@@ -313,7 +324,7 @@ fn push_view(out: &mut String, view: &View) -> Result<(), AllocError>
     ensures { OnOk result (string_bytes out.new ≡ string_bytes out.old ++ view_line view.now) }
 {
     out.push_str("view")?;
-    push_members(out, view.members())
+    push_members_of(out, view)
 }
 
 // The three lines of the heading.

@@ -159,14 +159,20 @@ impl Sync {
         ensures { result ≡ is_majority (is_trusted self.now) self.now.view }
     {
         let members = self.view.members();
-        let trusted = members.iter().filter(|m| self.is_trusted(**m)).count();
+        let trusted = members
+            .iter()
+            .filter(|m| self.is_trusted(PeerId(u32::from(**m))))
+            .count();
         trusted > members.len() / 2
     }
 
     fn have_all_finished(&self) -> bool
         ensures { result ≡ has_all (has_finished self.now) self.now.view }
     {
-        self.view.members().iter().all(|m| self.has_finished(*m))
+        self.view
+            .members()
+            .iter()
+            .all(|m| self.has_finished(PeerId(u32::from(*m))))
     }
 
     /// Whether the sources that have finished suffice: more than half of the view with trusted

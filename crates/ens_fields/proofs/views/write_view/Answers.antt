@@ -8,5 +8,5 @@ write_u32-place-requires c = omega (arith, length-members c.args.x.now, ap lengt
 pub loop-member-preserved : goal.loop-member-preserved
 loop-member-preserved c = record {
   size = omega arith;
-  written = written_more _ _ _ c.members-members.result.now _ _ c.loop-member.member-index _ _ _ (omega arith) c.member-item.is c.number.ensures c.loop-member.invariant.written c.write_u32-place.ensures;
+  written = written_more _ _ _ c.members-members.result.now _ _ c.loop-member.member-index _ _ (omega arith) c.from.ensures c.loop-member.invariant.written c.write_u32-place.ensures;
 }
