@@ -1,3 +1,4 @@
 pub mod Greatest
 pub mod Lookups
 pub mod Slots
+pub mod Written

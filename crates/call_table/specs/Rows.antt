@@ -27,13 +27,9 @@ row_or_fresh (Some row) = row
 unfoldable pub row_at : List ℕ → Rows → KeyRow
 row_at key rows = row_or_fresh (lookup (is_at (bytes_cmp key)) rows)
 
--- the rows without the row of the key
-abbrev pub without_row : List ℕ → Rows → Rows
-without_row key rows = remove_entry (is_at (bytes_cmp key)) rows
-
 -- the rows with this row for the key
 abbrev pub with_row : List ℕ → KeyRow → Rows → Rows
-with_row key row rows = insert_entry bytes_cmp (without_row key rows) key row
+with_row key row rows = insert_entry bytes_cmp rows key row
 
 -- the rows with this knowledge of the key
 unfoldable pub with_known : List ℕ → Known → Rows → Rows

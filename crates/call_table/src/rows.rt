@@ -2,7 +2,7 @@ ghost use Rattle.std.specs.Prelude.{◌≡◌, [], MatchOption, OnOk};
 ghost use Rattle.std.specs.BTreeMap.{insert_entry};
 ghost use Rattle.ens_base.specs.Lists.{bytes_cmp};
 ghost use Rattle.call_table.specs.declared.row.Stage.TheVariants.{Idle};
-ghost use Rattle.call_table.specs.Rows.{has_put, row_at, without_row, with_known, with_stage};
+ghost use Rattle.call_table.specs.Rows.{has_put, row_at, with_known, with_stage};
 
 use crate::row::{KeyRow, Known, Stage};
 use ens_base::{CopyError, Key};
@@ -68,49 +68,49 @@ impl Rows {
         }
     }
 
-    /// Removes the row of the key and returns it. A key without a row has the row of a key of which
-    /// nothing is known.
-    #[tactic(auto, unfolding(crate::specs::Rows::row_at))]
-    pub fn take(&mut self, key: &Key) -> KeyRow
-        ensures row { result ≡ row_at key.now self.old }
-        ensures rows { self.new ≡ without_row key.now self.old }
+    /// Inserts the row of a key that has none. Fails only when out of memory.
+    fn add(&mut self, alloc: Global, key: &Key, row: KeyRow) -> Result<(), CopyError>
+        ensures { OnOk result (self.new ≡ insert_entry bytes_cmp self.old key.now row) }
     {
-        match self.rows.remove(key) {
-            Some(row) => row,
-            None => KeyRow {
-                known: Known::Unknown,
-                stage: Stage::Idle,
-            },
-        }
-    }
-
-    /// Inserts the row of a key. Fails only when out of memory.
-    pub fn put(&mut self, key: Key, row: KeyRow) -> Result<(), CopyError>
-        ensures { OnOk result (self.new ≡ insert_entry bytes_cmp self.old key row) }
-    {
-        self.rows.insert(key, row)?;
+        self.rows.insert(key.copy(alloc)?, row)?;
         Ok(())
     }
 
     /// Sets what is known of the key. Fails only when out of memory.
-    #[tactic(auto, unfolding(crate::specs::Rows::with_known))]
+    #[tactic(auto, unfolding(crate::specs::Rows::with_known, crate::specs::Rows::row_at))]
     pub fn set_known(&mut self, alloc: Global, key: &Key, known: Known) -> Result<(), CopyError>
         ensures { OnOk result (self.new ≡ with_known key.now known self.old) }
     {
-        let name = key.copy(alloc)?;
-        let mut row = self.take(key);
-        row.known = known;
-        self.put(name, row)
+        if let Some(row) = self.rows.get_mut(key) {
+            row.known = known;
+            return Ok(());
+        }
+        self.add(
+            alloc,
+            key,
+            KeyRow {
+                known,
+                stage: Stage::Idle,
+            },
+        )
     }
 
     /// Sets the stage of the key. Fails only when out of memory.
-    #[tactic(auto, unfolding(crate::specs::Rows::with_stage))]
+    #[tactic(auto, unfolding(crate::specs::Rows::with_stage, crate::specs::Rows::row_at))]
     pub fn set_stage(&mut self, alloc: Global, key: &Key, stage: Stage) -> Result<(), CopyError>
         ensures { OnOk result (self.new ≡ with_stage key.now stage self.old) }
     {
-        let name = key.copy(alloc)?;
-        let mut row = self.take(key);
-        row.stage = stage;
-        self.put(name, row)
+        if let Some(row) = self.rows.get_mut(key) {
+            row.stage = stage;
+            return Ok(());
+        }
+        self.add(
+            alloc,
+            key,
+            KeyRow {
+                known: Known::Unknown,
+                stage,
+            },
+        )
     }
 }

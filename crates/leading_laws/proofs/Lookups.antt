@@ -7,7 +7,7 @@ use Rattle.std.proofs.lemmas.Map.Text.{is_eq-slice_cmp}
 use Rattle.ens_base.specs.Lists.{bytes_cmp, same_bytes}
 use Rattle.ens_base.proofs.Lists.{bytes_same, bytes_itself}
 use Rattle.call_table.specs.Calls.{running, without_running}
-use Rattle.call_table.specs.Rows.{Rows, row_at, row_or_fresh, without_row, with_row, with_known, with_stage}
+use Rattle.call_table.specs.Rows.{Rows, row_at, row_or_fresh, with_row, with_known, with_stage}
 use Rattle.call_table.specs.declared.row.KeyRow.{KeyRow}
 use Rattle.call_table.specs.declared.row.Known.{Known}
 use Rattle.call_table.specs.declared.row.Stage.{Stage}
@@ -25,18 +25,7 @@ off_key key k xs off on = by_test (same_bytes k xs) refl
 at_bytes : (k xs : List ℕ) → is_at (bytes_cmp k) xs ≡ same_bytes k xs
 at_bytes k xs = is_eq-slice_cmp k xs
 
--- ## Removing and inserting the entry of one key
-
-removed_other : (key k : List ℕ) (rows : Rows) → same_bytes key k ≡ false → lookup (is_at (bytes_cmp k)) (without_row key rows) ≡ lookup (is_at (bytes_cmp k)) rows
-removed_other key k [] off = refl
-removed_other key k (e ∷ es) off = by_test (is_at (bytes_cmp key) e.0) refl (removed_other key k es off)
-  where
-    by_test : (b : Bool) → is_at (bytes_cmp key) e.0 ≡ b → lookup (is_at (bytes_cmp k)) (without_row key es) ≡ lookup (is_at (bytes_cmp k)) es
-        → lookup (is_at (bytes_cmp k)) (cond b es (e ∷ without_row key es)) ≡ cond (is_at (bytes_cmp k) e.0) (Some e.1) (lookup (is_at (bytes_cmp k)) es)
-    by_test true on rest =
-        let other : is_at (bytes_cmp k) e.0 ≡ false = at_bytes k e.0 ∙ off_key key k e.0 off (sym (at_bytes key e.0) ∙ on) in
-        sym (ap (λ (b : Bool). cond b (Some e.1) (lookup (is_at (bytes_cmp k)) es)) other)
-    by_test false on rest = ap (λ (o : Option KeyRow). cond (is_at (bytes_cmp k) e.0) (Some e.1) o) rest
+-- ## Inserting the entry of one key
 
 inserted_other : (key k : List ℕ) (row : KeyRow) (rows : Rows) → same_bytes key k ≡ false → lookup (is_at (bytes_cmp k)) (insert_entry bytes_cmp rows key row) ≡ lookup (is_at (bytes_cmp k)) rows
 inserted_other key k row [] off = ap (λ (b : Bool). cond b (Some row) None) (at_other key k off)
@@ -70,11 +59,11 @@ inserted_here key row (e ∷ es) = by_order (bytes_cmp key e.0) refl (inserted_h
 
 pub row_other : (key k : List ℕ) (row : KeyRow) (rows : Rows) → same_bytes key k ≡ false → row_at k (with_row key row rows) ≡ row_at k rows
 unfolding row_at
-row_other key k row rows off = ap row_or_fresh (inserted_other key k row (without_row key rows) off ∙ removed_other key k rows off)
+row_other key k row rows off = ap row_or_fresh (inserted_other key k row rows off)
 
 pub row_here : (key : List ℕ) (row : KeyRow) (rows : Rows) → row_at key (with_row key row rows) ≡ row
 unfolding row_at
-row_here key row rows = ap row_or_fresh (inserted_here key row (without_row key rows))
+row_here key row rows = ap row_or_fresh (inserted_here key row rows)
 
 pub known_other : (key k : List ℕ) (known : Known) (rows : Rows) → same_bytes key k ≡ false → row_at k (with_known key known rows) ≡ row_at k rows
 unfolding with_known
