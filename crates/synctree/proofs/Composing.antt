@@ -5,6 +5,12 @@ use Rattle.synctree.specs.declared.error.TreeError.{TreeError}
 use Rattle.synctree.specs.declared.error.TreeError.TheVariants.{Damaged, Failed, Clash, BookFull, Memory}
 use Rattle.synctree.specs.Plans.{Call, Node, Hash, AnswerOf, Plan, Done, Broken, Ask, ◌>>=◌, hashed, Ends, Stops, Did}
 
+-- three plans one after another
+pub in_turn : {A B C : Type 0} (p : Plan A) (f : A → Plan B) (g : B → Plan C) → (p >>= f >>= g) ≡ (p >>= (λ x. f x >>= g))
+in_turn (Done x) f g = refl
+in_turn (Broken at) f g = refl
+in_turn (Ask call next) f g = λ i. Ask call (λ answer. in_turn (next answer) f g i)
+
 pub hashed_append : (call : Call) (rest ys : List (List ℕ)) → hashed call rest ++ ys ≡ hashed call (rest ++ ys)
 hashed_append (Node call) rest ys = refl
 hashed_append (Hash bytes) rest ys = refl

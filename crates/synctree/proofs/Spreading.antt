@@ -1,5 +1,5 @@
 -- The loops over the children of a node.
-use Rattle.std.proofs.Common.{◌≡◌, ℕ, zero, suc, ◌+◌, ◌*◌, ◌/◌, ◌%◌, ◌<◌, ◌≤◌, ◌^◌, Bool, true, false, cond, List, [], ◌∷◌, ◌++◌, Option, None, length, drop, refl, ap, sym, ◌∙◌, arith, append_assoc, length-drop}
+use Rattle.std.proofs.Common.{◌≡◌, ℕ, zero, suc, get_or, ◌+◌, ◌*◌, ◌/◌, ◌%◌, ◌<◌, ◌≤◌, ◌^◌, Bool, true, false, cond, List, [], ◌∷◌, ◌++◌, Option, None, length, drop, refl, ap, sym, ◌∙◌, arith, append_assoc, length-drop}
 use Rattle.std.specs.Prelude.{slice_get, ◌==◌}
 use lib.Pow.{pow_mono}
 use mir.Val.{bool_byte}
@@ -36,6 +36,22 @@ spread_next k mask next ds total all e = e ∙ ap (λ xs. all ++ xs) (step_is k 
     by : (b : Bool) → cond b (slice_get (drop next ds) 0) None ∷ spread k (mask / 2) (drop (cond b 1 0) (drop next ds)) ≡ cond b (slice_get ds next) None ∷ spread k (mask / 2) (drop (next + cond b 1 0) ds)
     by true = let one = get_drop next ds in let two = drop_one next ds in λ i. one i ∷ spread k (mask / 2) (two i)
     by false = let same : next + 0 ≡ next = omega arith in rw same refl
+
+-- the first child is passed over
+pub skip_one : (k mask next j : ℕ) (ds : List (List ℕ)) → get_or (spread (suc k) mask (drop next ds)) (suc j) None ≡ get_or (spread k (mask / 2) (drop (next + cond (mask % 2 == 1) 1 0) ds)) j None
+skip_one k mask next j ds = ap (λ xs. get_or xs (suc j) None) (step_is k mask (drop next ds)) ∙ by (mask % 2 == 1)
+  where
+    by : (b : Bool) → get_or (spread k (mask / 2) (drop (cond b 1 0) (drop next ds))) j None ≡ get_or (spread k (mask / 2) (drop (next + cond b 1 0) ds)) j None
+    by true = ap (λ xs. get_or (spread k (mask / 2) xs) j None) (drop_one next ds)
+    by false = let same : next + 0 ≡ next = omega arith in rw same refl
+
+-- the first child
+pub at_first : (k mask next : ℕ) (ds : List (List ℕ)) → get_or (spread (suc k) mask (drop next ds)) 0 None ≡ cond (mask % 2 == 1) (slice_get ds next) None
+at_first k mask next ds = ap (λ xs. get_or xs 0 None) (step_is k mask (drop next ds)) ∙ by (mask % 2 == 1)
+  where
+    by : (b : Bool) → cond b (slice_get (drop next ds) 0) None ≡ cond b (slice_get ds next) None
+    by true = get_drop next ds
+    by false = refl
 
 pub mask_room : (cs : List (Option (List ℕ))) (c : ℕ) → 0 < c → c ≤ length cs → length cs ≤ 16 → 2 * mask_of (drop c cs) + 1 < 2 ^ 16
 mask_room cs c some bound few =

@@ -5,11 +5,11 @@ ghost use Rattle.tree_maps.specs.Sixteen.{form_of, children_in, entries_in};
 ghost use Rattle.synctree.specs.Answers.{Makes};
 ghost use Rattle.synctree.specs.Outsides.{outside_does, outside_refuses};
 ghost use Rattle.synctree.specs.Plans.{Did};
-ghost use Rattle.synctree.specs.Nodes.{child_name as child_name_plan, name_at as name_plan, node_bytes as bytes_plan, is_node as encodes, node_under, node_plan};
+ghost use Rattle.synctree.specs.Nodes.{name_at as name_plan, node_bytes as bytes_plan, is_node as encodes, node_under, node_plan};
 
 use crate::error::TreeError;
-use crate::shape::{ROOT, name_of};
-use crate::walk::{fetch, open_inner};
+use crate::shape::ROOT;
+use crate::walk::{child_name, fetch};
 use ens_base::{Bytes, Digest};
 use ens_hashing::Hasher16;
 use ens_outside::NodeStore;
@@ -25,25 +25,6 @@ fn parent(at: Position) -> Position
         level: at.level - 1,
         index: at.index / 16,
     }
-}
-
-/// Returns the digest of a child of the inner node under the digest, or `None` if there is no such
-/// child.
-fn child_name<N: NodeStore, H: Hasher16>(
-    alloc: Global,
-    nodes: &mut N,
-    hasher: &mut H,
-    version: TreeVersion,
-    at: Position,
-    digit: u8,
-    digest: &Digest,
-) -> Result<Option<Digest>, TreeError>
-    requires { IsPosition version at }
-    ensures { Did (outside_does N.may_answer N.top_record N.fault_count H.kept H.clashes H.fulls) (outside_refuses N.may_refuse N.top_record N.fault_count H.kept H.clashes H.fulls)
-        (child_name_plan (form_of version) at digit digest.now) (nodes.old, hasher.old) result (nodes.new, hasher.new) }
-{
-    let names = open_inner(alloc, nodes, hasher, version, at, digest)?;
-    Ok(name_of(names.as_slice(), digit))
 }
 
 /// Returns the digest of the node at a position of the tree whose root has digest `top`, or `None`

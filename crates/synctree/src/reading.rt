@@ -1,11 +1,12 @@
-ghost use Rattle.std.specs.Prelude.{◌≡◌, Some, None, length, IfOk};
+ghost use Rattle.std.specs.Prelude.{◌≡◌, ◌<◌, Some, None, get_or, length, IfOk};
+ghost use Rattle.std.specs.Option.{option_map};
 ghost use Rattle.tree_maps.specs.TreeNode.{AreEntries, IsPosition, inner_of, segment_of};
 ghost use Rattle.tree_maps.specs.Entries.{lookup as found};
 ghost use Rattle.tree_maps.specs.Sixteen.{children_in, entries_in};
 ghost use Rattle.synctree.specs.Answers.{Spells, Makes};
 
 use crate::error::TreeError;
-use crate::shape::children;
+use crate::shape::{child_in, children};
 use ens_base::{Digest, Entry, Key, Seq};
 use std::alloc::Global;
 use tree_maps::{NodeError, Position, TreeVersion, decode_inner, decode_segment};
@@ -23,6 +24,26 @@ pub(crate) fn inner(
 {
     match decode_inner(alloc, bytes, at, version) {
         Ok(node) => children(alloc, &node),
+        Err(NodeError::Memory) => Err(TreeError::Memory),
+        Err(_) => Err(TreeError::Damaged(at)),
+    }
+}
+
+/// Decodes an inner node, and returns the digest of child `digit`, or `None` if there is no such child.
+/// `Damaged` names `at` if the bytes are not an inner node of that position.
+pub(crate) fn inner_child(
+    alloc: Global,
+    bytes: &[u8],
+    version: TreeVersion,
+    at: Position,
+    digit: u8,
+) -> Result<Option<Digest>, TreeError>
+    requires position { IsPosition version at }
+    requires digit { digit < 16 }
+    ensures { Spells result at (option_map (λ names. get_or names digit None) (children_in (inner_of version at bytes.now))) }
+{
+    match decode_inner(alloc, bytes, at, version) {
+        Ok(node) => Ok(child_in(&node, digit)),
         Err(NodeError::Memory) => Err(TreeError::Memory),
         Err(_) => Err(TreeError::Damaged(at)),
     }

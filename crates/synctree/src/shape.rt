@@ -70,6 +70,21 @@ pub fn children(alloc: Global, node: &InnerNode) -> Result<Seq<Option<Digest>>, 
     Ok(Seq::new(all))
 }
 
+/// Returns the digest of child `digit` of an inner node, or `None` if there is no such child.
+pub(crate) fn child_in(node: &InnerNode, digit: u8) -> Option<Digest>
+    requires { digit < 16 }
+    ensures { result ≡ get_or (children_of node.now.mask node.now.digests) digit None }
+{
+    let digests = node.digests.as_slice();
+    let mut mask = node.mask;
+    let mut next = 0;
+    for _ in 0..digit {
+        next += usize::from(mask % 2 == 1);
+        mask /= 2;
+    }
+    if_there(mask % 2 == 1, digests, next)
+}
+
 /// Returns the mask of the children: bit c says whether child c is present.
 pub(crate) fn mask(children: &[Option<Digest>]) -> u16
     requires { length children.now ≤ 16 }

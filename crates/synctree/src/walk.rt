@@ -8,11 +8,12 @@ ghost use Rattle.synctree.specs.Outsides.{outside_does, outside_refuses};
 ghost use Rattle.synctree.specs.Plans.{Did};
 ghost use Rattle.synctree.specs.Walks.{fetch as fetch_plan, open_node, find as find_plan, reach, store as store_plan, enter as enter_plan};
 ghost use Rattle.synctree.specs.Trees.{get_plan};
+ghost use Rattle.synctree.specs.Nodes.{child_name as child_name_plan};
 
 use crate::calls::{hash, read};
 use crate::error::TreeError;
-use crate::reading::{inner, lookup, segment};
-use crate::shape::{ROOT, child, name_of, nibble};
+use crate::reading::{inner, inner_child, lookup, segment};
+use crate::shape::{ROOT, child, nibble};
 use ens_base::{Bytes, Digest, Entry, Key, Seq};
 use ens_hashing::Hasher16;
 use ens_outside::NodeStore;
@@ -57,6 +58,26 @@ pub(crate) fn open_inner<N: NodeStore, H: Hasher16>(
 {
     let bytes = fetch(alloc, nodes, hasher, at, digest)?;
     inner(alloc, bytes.as_slice(), version, at)
+}
+
+/// Returns the digest of a child of the inner node under the digest, or `None` if there is no such
+/// child.
+pub(crate) fn child_name<N: NodeStore, H: Hasher16>(
+    alloc: Global,
+    nodes: &mut N,
+    hasher: &mut H,
+    version: TreeVersion,
+    at: Position,
+    digit: u8,
+    digest: &Digest,
+) -> Result<Option<Digest>, TreeError>
+    requires position { IsPosition version at }
+    requires digit { digit < 16 }
+    ensures { Did (outside_does N.may_answer N.top_record N.fault_count H.kept H.clashes H.fulls) (outside_refuses N.may_refuse N.top_record N.fault_count H.kept H.clashes H.fulls)
+        (child_name_plan (form_of version) at digit digest.now) (nodes.old, hasher.old) result (nodes.new, hasher.new) }
+{
+    let bytes = fetch(alloc, nodes, hasher, at, digest)?;
+    inner_child(alloc, bytes.as_slice(), version, at, digit)
 }
 
 /// Returns the entries of the segment under the digest.
@@ -116,9 +137,9 @@ fn find<N: NodeStore, H: Hasher16>(
     if height == 0 {
         return find_in_segment(alloc, nodes, hasher, version, at, digest, key);
     }
-    let names = open_inner(alloc, nodes, hasher, version, at, digest)?;
     let digit = nibble(path, at.level);
-    match name_of(names.as_slice(), digit) {
+    let named = child_name(alloc, nodes, hasher, version, at, digit, digest)?;
+    match named {
         Some(below) => {
             let at = child(at, digit);
             find(

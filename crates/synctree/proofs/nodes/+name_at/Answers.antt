@@ -1,4 +1,5 @@
 use Rattle.std.proofs.Common.{◌∙◌, ◌-◌, ◌/◌, ◌%◌, ap, sym, refl, [], subst, arith, ℕ, List, Option, None, Ok}
+use Rattle.std.proofs.Math.Nat.{mod-lt}
 use Rattle.tree_maps.specs.TreeNode.{Position}
 use Rattle.tree_maps.specs.Sixteen.{form_of}
 use Rattle.tree_maps.proofs.Below.{place}
@@ -33,5 +34,8 @@ returns-in-None g t c = name_next g.N.NodeStore.may_answer g.N.NodeStore.may_ref
     (c.parent-above.ensures ∙ ap (λ (w : ℕ). place (c.args.at.level - 1) (c.args.at.index / w)) (sym (width_is c.args.version))) c.in_ok-digest.ensures
     (subst (λ (q : Option (List ℕ)). DidOutside g.N.NodeStore.may_answer g.N.NodeStore.may_refuse g.N.NodeStore.top_record g.N.NodeStore.fault_count g.H.Hasher16.kept g.H.Hasher16.clashes g.H.Hasher16.fulls (onward None (child_name (form_of c.args.version) c.parent-above.result (c.args.at.index % (form_of c.args.version).width)) q) (c.name_at.new.nodes, c.name_at.new.hasher) (Ok None) (c.name_at.new.nodes, c.name_at.new.hasher)) (sym c.in-None.is) ([], (refl, refl, refl)))
 
-pub child_name-requires : goal.child_name-requires
-child_name-requires g t c = parent_position c.args.version c.args.at c.parent-above.result c.requires (omega (arith, c.if-at-eq0.false)) c.parent-above.ensures
+pub child_name-requires-clause-digit : goal.child_name-requires-clause-digit
+child_name-requires-clause-digit g t c = mod-lt c.args.at.index (omega arith)
+
+pub child_name-requires-clause-position : goal.child_name-requires-clause-position
+child_name-requires-clause-position g t c = parent_position c.args.version c.args.at c.parent-above.result c.requires (omega (arith, c.if-at-eq0.false)) c.parent-above.ensures
