@@ -9,15 +9,15 @@ ghost use Rattle.world_stores.specs.Nodes.{NodesDo, NodesRefuse, reverted, top_o
 use crate::faults::Faults;
 use ens_base::{Bytes, Digest};
 use ens_outside::{Leaves, NodeStore, StoreError};
+use indexmap::IndexMap;
 use std::alloc::Global;
-use std::collections::BTreeMap;
 use std::marker::Model;
 
 /// The nodes of a peer in memory, and all that its top record held. Reads and writes of nodes never
 /// fail. A write of the top record fails exactly if a failure waits.
 #[derive(Drop)]
 pub struct HeldNodes {
-    nodes: BTreeMap<Digest, Bytes>,
+    nodes: IndexMap<Digest, Bytes>,
     tops: Vec<Digest>,
     faults: Faults,
 }
@@ -27,7 +27,9 @@ impl Model for HeldNodes {
 
     ghost Value = { Nodes };
 
-    ghost view = { λ s. record { entries = s.nodes.entries; tops = s.tops.items; faults = s.faults } };
+    ghost use Rattle.world_stores.specs.Maps.{map_of};
+
+    ghost view = { λ s. record { entries = map_of s.nodes.entries; tops = s.tops.items; faults = s.faults } };
 }
 
 impl HeldNodes {
@@ -36,7 +38,7 @@ impl HeldNodes {
         ensures { result ≡ record { entries = []; tops = []; faults = no_faults } }
     {
         HeldNodes {
-            nodes: BTreeMap::new(alloc),
+            nodes: IndexMap::new(alloc),
             tops: Vec::new(alloc),
             faults: Faults::none(),
         }
@@ -89,7 +91,7 @@ impl HeldNodes {
     pub fn lose(&mut self, digest: &Digest)
         ensures { self.new ≡ record self.old { entries = without digest.now self.old.entries } }
     {
-        self.nodes.remove(digest);
+        self.nodes.shift_remove(digest);
     }
 
     /// Stores `bytes` under `digest`. When out of memory, leaves the store unchanged.
