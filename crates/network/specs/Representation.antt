@@ -1,5 +1,5 @@
 -- How a network represents the waiting messages by flags and lines.
-use Rattle.std.specs.Prelude.{◌≡◌, ◌<◌, ◌≤◌, ℕ, Bool, true, false, List, All, Some, slice_get, slice_index_or}
+use Rattle.std.specs.Prelude.{◌≡◌, ◌<◌, ◌≤◌, ℕ, Bool, true, false, List, All, Some, length, slice_get, slice_index_or}
 use Rattle.ens_base.specs.Lists.{is_in}
 use Rattle.std.specs.Option.{option_map}
 use Rattle.wire_frames.specs.declared.frame.Frame.{Frame}
@@ -26,11 +26,17 @@ pub record AreInLine (sent : List Frame) (waits : List Bool) (lines : List (List
 unfoldable pub IsQueued : List Frame → List Bool → List (List ℕ) → Type 0
 IsQueued sent waits lines = AreInLine sent waits lines
 
+-- no message below this number waits
+pub record AreSettled (waits : List Bool) (first : ℕ) : Type 0 where
+  pub within : first ≤ length waits
+  pub none : (n : ℕ) → n < first → slice_index_or waits n false ≡ false
+
 -- the invariant: every message may be sent and has a flag, its sender and receiver are below the
--- bound, and the waiting messages are in the lines
-pub record IsKept (sent : List Frame) (waits : List Bool) (lines : List (List ℕ)) (bound : ℕ) : Type 0 where
+-- bound, the waiting messages are in the lines, and none of them is below the first
+pub record IsKept (sent : List Frame) (waits : List Bool) (lines : List (List ℕ)) (bound first : ℕ) : Type 0 where
   pub may : All MayBeSent sent
   pub below : All (IsBelow bound) sent
   pub few : bound ≤ 32
   pub mail : IsMail (mail_in sent waits)
   pub queued : IsQueued sent waits lines
+  pub settled : AreSettled waits first

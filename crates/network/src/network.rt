@@ -1,8 +1,10 @@
-ghost use Rattle.std.specs.Prelude.{◌≡◌, ◌↔◌, ◌≤◌, ◌<◌, true, false, slice_index_or, [], ◌∷◌, ◌++◌, All, length, IfOk, IfSome, IsErrOf, OnOk, OnErr, vec_len};
+ghost use Rattle.std.specs.Prelude.{◌≡◌, ◌↔◌, ◌≤◌, ◌<◌, true, false, slice_get, slice_index_or, [], ◌∷◌, ◌++◌, All, length, IfOk, IfSome, IsErrOf, OnOk, OnErr, vec_len};
 ghost use Rattle.std.specs.Vec.{vec_capacity};
 ghost use Rattle.ens_base.specs.View.{IsPeer};
 ghost use Rattle.network.specs.Lines.{Changes};
 ghost use Rattle.network.specs.Mail.{older};
+ghost use Rattle.network.specs.Representation.{AreSettled};
+ghost use Rattle.std.specs.Option.{option_map_or};
 
 use crate::error::SendError;
 use crate::lines::Lines;
@@ -23,6 +25,8 @@ pub struct Network {
     lines: Lines,
     /// Above the number of every sender and receiver so far, and at most 32.
     bound: u32,
+    /// No message below this number waits.
+    first: usize,
 }
 
 impl Model for Network {
@@ -34,7 +38,7 @@ impl Model for Network {
 
     ghost view = { λ n. mail_in n.sent.items n.waiting.items };
 
-    ghost invariant = { λ n. IsKept n.sent.items n.waiting.items n.lines n.bound };
+    ghost invariant = { λ n. IsKept n.sent.items n.waiting.items n.lines n.bound n.first };
 }
 
 impl Network {
@@ -55,6 +59,7 @@ impl Network {
             waiting: Vec::new(alloc),
             lines,
             bound: 1,
+            first: 0,
         })
     }
 
@@ -135,6 +140,7 @@ impl Network {
         let place = Network::place(frame.from, frame.to);
         self.waiting[number] = false;
         self.lines.skip(place, self.waiting.as_slice());
+        self.first = next_waiting(self.waiting.as_slice(), self.first);
     }
 
     /// Loses all messages waiting from `from` to `to`. They stay in the list of sent messages.
@@ -171,9 +177,32 @@ impl Network {
         best
     }
 
+    /// Whether the sender and the receiver of the message `number` are both in `peers`.
+    fn goes_among(&self, number: usize, peers: &PeerSet) -> bool
+        ensures { result ≡ option_map_or (is_among peers.now) (slice_get self.now.sent number) false }
+    {
+        match self.sent.get(number) {
+            Some(frame) => peers.has(PeerId(frame.from)) && peers.has(PeerId(frame.to)),
+            None => false,
+        }
+    }
+
     /// Returns the number of the oldest waiting message whose sender and receiver are both in
-    /// `peers`.
+    /// `peers`. The first message that may wait is looked at before the lines are.
     pub fn oldest_among(&self, peers: &PeerSet) -> Option<usize>
+        ensures oldest { result ≡ oldest (is_among peers.now) self.now }
+        ensures sent { IfSome result (λ n. n < length self.now.sent) }
+    {
+        let first = self.first;
+        if self.waits(first) && self.goes_among(first, peers) {
+            return Some(first);
+        }
+        self.oldest_in_lines(peers)
+    }
+
+    /// Returns the number of the oldest message in the lines whose sender and receiver are both in
+    /// `peers`.
+    fn oldest_in_lines(&self, peers: &PeerSet) -> Option<usize>
         ensures oldest { result ≡ oldest (is_among peers.now) self.now }
         ensures sent { IfSome result (λ n. n < length self.now.sent) }
     {
@@ -223,6 +252,19 @@ fn make_room(sent: &mut Vec<Frame>, waiting: &mut Vec<bool>) -> Result<(), Alloc
     sent.reserve(1)?;
     waiting.reserve(1)?;
     Ok(())
+}
+
+/// Returns the number of the first message from `first` on that waits, or their number if none does.
+fn next_waiting(waiting: &[bool], first: usize) -> usize
+    requires { AreSettled waiting.now first }
+    ensures { AreSettled waiting.now result }
+{
+    for number in first..waiting.len() {
+        if waiting[number] {
+            return number;
+        }
+    }
+    waiting.len()
 }
 
 /// Returns the lesser of two numbers, or the only one present.

@@ -1,8 +1,10 @@
+use Rattle.ens_base.specs.Lists.{is_in}
+use Rattle.std.specs.Prelude.{◌&&◌, not}
 use Rattle.std.proofs.Common.{◌≡◌, ◌<◌, ◌++◌, List, Bool, length, take, drop, ap, arith, sym, subst, ◌∙◌}
 use Rattle.network.specs.Lines.{line, line_place, cleared}
 use Rattle.network.specs.Mail.{lost}
 use Rattle.network.specs.Representation.{mail_in, IsKept}
-use Rattle.network.proofs.Flags.{length-cleared, written_over}
+use Rattle.network.proofs.Flags.{flag_cleared, length-cleared, written_over}
 use Rattle.network.proofs.Losing.{cleared_is_lost, lost_in_line}
 use Rattle.network.proofs.Posting.{own_below}
 use Rattle.network.proofs.Queued.{in_line, queued_by}
@@ -25,12 +27,16 @@ returns c =
 
 pub invariant_of-self : goal.invariant_of-self
 invariant_of-self c =
-    subst (λ (ws : List Bool). IsKept c.self.inside.sent.items ws c.clear.new.self c.self.inside.bound) (sym (over c)) (record {
+    subst (λ (ws : List Bool). IsKept c.self.inside.sent.items ws c.clear.new.self c.self.inside.bound c.self.inside.first) (sym (over c)) (record {
       may = c.self.invariant.may;
       below = c.self.invariant.below;
       few = c.self.invariant.few;
       mail = length-cleared c.self.inside.waiting.items (line c.self.inside.lines c.place-place.result) ∙ c.self.invariant.mail;
       queued = queued_by _ _ _ (lost_in_line c.self.inside.sent.items c.self.inside.waiting.items c.self.inside.lines c.clear.new.self c.place-place.result (in_line c.self.inside.sent.items c.self.inside.waiting.items c.self.inside.lines c.self.invariant.queued) c.clear.ensures.empty);
+      settled = record {
+        within = omega (arith, c.self.invariant.settled.within, length-cleared c.self.inside.waiting.items (line c.self.inside.lines c.place-place.result));
+        none = λ n below. flag_cleared c.self.inside.waiting.items (line c.self.inside.lines c.place-place.result) n ∙ ap (λ (w : Bool). w && not (is_in (line c.self.inside.lines c.place-place.result) n)) (c.self.invariant.settled.none n below);
+      };
     })
 
 pub clear-requires-clause-known : goal.clear-requires-clause-known

@@ -1,11 +1,12 @@
-use Rattle.std.proofs.Common.{◌≡◌, ◌<◌, ◌≤◌, false, length, rules, arith, Some, ap, sym, ◌∙◌}
+use Rattle.std.proofs.Common.{◌≡◌, ◌<◌, ◌≤◌, Bool, List, false, length, rules, arith, Some, ap, subst, sym, ◌∙◌}
 use Rattle.std.specs.Prelude.{slice_get, slice_set}
 use Rattle.std.proofs.lemmas.Grind.{common_steps}
 use Rattle.std.proofs.lemmas.List.{length-set, set_past}
 use Rattle.std.proofs.lemmas.Option.{gets}
 use Rattle.network.specs.Lines.{line, from_waiting, Changes}
 use Rattle.network.specs.Mail.{Mail, settled}
-use Rattle.network.specs.Representation.{mail_in}
+use Rattle.network.specs.Representation.{mail_in, AreSettled}
+use Rattle.network.proofs.MailLaws.{flag_settled}
 use Rattle.network.proofs.Posting.{own_below}
 use Rattle.network.proofs.Settling.{settled_in_line}
 use Rattle.network.proofs.Queued.{in_line, queued_by}
@@ -15,6 +16,12 @@ pub skip-requires-clause-known : goal.skip-requires-clause-known
 skip-requires-clause-known c n there =
     let known : n < length c.self.inside.sent.items = own_below c.self.inside.sent.items c.place-place.result (line c.self.inside.lines c.place-place.result) ((in_line c.self.inside.sent.items c.self.inside.waiting.items c.self.inside.lines c.self.invariant.queued).own c.place-place.result) n there in
     omega (arith, known, c.self.invariant.mail, ap length c.as_slice.ensures.value, length-set c.self.inside.waiting.items c.args.number false)
+
+pub next_waiting-self-inside-requires : goal.next_waiting-self-inside-requires
+next_waiting-self-inside-requires c = subst (λ (ws : List Bool). AreSettled ws c.self.inside.first) (sym c.as_slice-2.ensures.value) (record {
+  within = omega (arith, c.self.invariant.settled.within, length-set c.self.inside.waiting.items c.args.number false);
+  none = λ n below. flag_settled c.self.inside.waiting.items c.args.number n (c.self.invariant.settled.none n below);
+})
 
 pub invariant_of-self : goal.invariant_of-self
 invariant_of-self c =
@@ -27,6 +34,7 @@ invariant_of-self c =
       few = c.self.invariant.few;
       mail = length-set c.self.inside.waiting.items c.args.number false ∙ c.self.invariant.mail;
       queued = queued_by _ _ _ (settled_in_line sent c.self.inside.waiting.items c.self.inside.lines c.skip.new.self c.in-Some.frame.now c.place-place.result c.args.number (in_line c.self.inside.sent.items c.self.inside.waiting.items c.self.inside.lines c.self.invariant.queued) there c.place-place.ensures skipped);
+      settled = subst (λ (ws : List Bool). AreSettled ws c.next_waiting-self-inside.result) c.as_slice-2.ensures.value c.next_waiting-self-inside.ensures;
     }
 
 pub returns : goal.returns
