@@ -8,10 +8,10 @@ use Rattle.phase_rows.specs.Peers.{alone, nobody}
 use Rattle.phase_rows.specs.WireFrames.{Message}
 use Rattle.step_plans.specs.Sends.{posted}
 
-is_alone : (p : ℕ) → p < 32 → holds (alone p) p ≡ true
+pub is_alone : (p : ℕ) → p < 32 → holds (alone p) p ≡ true
 is_alone p below = get_or-set_same nobody p true false below
 
-no_other : (p q : ℕ) → q < 32 → q ≢ p → holds (alone p) q ≡ false
+pub no_other : (p q : ℕ) → q < 32 → q ≢ p → holds (alone p) q ≡ false
 no_other p q below other = get_or-set_other nobody p q true false other ∙ get_or-replicate 32 q false false below
 
 -- nothing is sent below the peer

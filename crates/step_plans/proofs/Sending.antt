@@ -1,17 +1,14 @@
 -- One more peer is sent its message, or is not.
-use Rattle.std.proofs.Common.{◌≡◌, ℕ, ◌+◌, suc, Bool, true, false, if◌then◌else◌, List, [], ◌∷◌, ◌++◌, ap, arith, rules}
+use Rattle.std.proofs.Common.{◌≡◌, ℕ, ◌+◌, Bool, true, false, if◌then◌else◌, List, [], ◌∷◌, ◌++◌, ap, rules, add-one}
 use Rattle.std.proofs.lemmas.List.{append_assoc}
 use Rattle.phase_rows.specs.WireFrames.{Message}
 use Rattle.step_plans.specs.Sends.{posted}
 use Rattle.leader_words.specs.declared.out.Outgoing.{Outgoing}
 
-one_more : (n : ℕ) → n + 1 ≡ suc n
-one_more n = omega arith
-
 posted_step : (test : ℕ → Bool) (word : ℕ → Message) (n : ℕ)
     → posted test word (n + 1) ≡ posted test word n ++ (if test (n + 1) then record { to = n + 1; message = word (n + 1) } ∷ [] else [])
 unfolding posted
-posted_step test word n = ap (posted test word) (one_more n)
+posted_step test word n = ap (posted test word) (add-one n)
 
 module _ (test : ℕ → Bool) (word : ℕ → Message) (n : ℕ) (first items : List Outgoing) (has : Bool)
     (so_far : items ≡ first ++ posted test word n) (tested : has ≡ test (n + 1)) where

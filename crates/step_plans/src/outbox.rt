@@ -1,4 +1,4 @@
-ghost use Rattle.std.specs.Prelude.{◌≡◌, ◌≢◌, ◌+◌, ◌≤◌, ℕ, ◌++◌, ◌∷◌, [], IsOk, OnOk, OnErr, IfErr, IfSome, IfNone, length};
+ghost use Rattle.std.specs.Prelude.{◌≡◌, ◌≢◌, ◌+◌, ◌≤◌, ℕ, true, ◌++◌, ◌∷◌, [], IsOk, OnOk, OnErr, IfErr, IfSome, IfNone, length};
 ghost use Rattle.ens_base.specs.PeerSet.{holds};
 ghost use Rattle.ens_base.specs.View.{IsPeer};
 ghost use Rattle.phase_rows.specs.Peers.{alone as alone_set};
@@ -20,6 +20,20 @@ pub struct Mark {
     changes: usize,
 }
 
+/// Returns `peer`, 1 to 31, which is in the set, if the set has no other, and `None` if it has.
+fn if_alone(set: &PeerSet, peer: PeerId) -> Option<PeerId>
+    requires peer { IsPeer peer }
+    requires member { holds set.now peer ≡ true }
+    ensures some { IfSome result (λ p. IsPeer p × (set.now ≡ alone_set p)) }
+    ensures none { IfNone result ((p : ℕ) → IsPeer p → set.now ≢ alone_set p) }
+{
+    if *set == alone(peer) {
+        Some(peer)
+    } else {
+        None
+    }
+}
+
 /// Returns the peer of a set of one peer, 1 to 31, and `None` for any other set.
 fn only_member(set: &PeerSet) -> Option<PeerId>
     ensures some { IfSome result (λ p. IsPeer p × (set.now ≡ alone_set p)) }
@@ -27,8 +41,8 @@ fn only_member(set: &PeerSet) -> Option<PeerId>
 {
     for number in 1..32 {
         let peer = PeerId(number);
-        if *set == alone(peer) {
-            return Some(peer);
+        if set.has(peer) {
+            return if_alone(set, peer);
         }
     }
     None

@@ -1,26 +1,17 @@
-use Rattle.std.proofs.Common.{◌≡◌, Bool, true, false, sym, ap, refl, ◌∙◌, inl, inr, arith}
+use Rattle.std.proofs.Common.{sym, ap, ◌∙◌, inl, inr, arith}
 use Rattle.std.proofs.lemmas.Bool.{cases_eq, true≢false}
-use Rattle.std.proofs.lemmas.Slice.Eq.{slice_eq-Decides}
-use Rattle.std.specs.Bool.{Decides}
-use Rattle.phase_rows.specs.Peers.{alone}
-use mathlib.Core.Bool.{beq}
+use Rattle.ens_base.specs.PeerSet.{holds}
+use Rattle.step_plans.proofs.Alone.{is_alone}
 use Rattle.step_plans.proofs.outbox.only_member.Goals as goal
 
-flags_decide : (a b : Bool) → Decides (beq a b) (a ≡ b)
-flags_decide true true = (λ e. refl, λ e. refl)
-flags_decide true false = (λ e. sym e, λ e. sym e)
-flags_decide false true = (λ e. e, λ e. e)
-flags_decide false false = (λ e. refl, λ e. refl)
-
-pub returns-then-eq-clause-some : goal.returns-then-eq-clause-some
-returns-then-eq-clause-some c =
-    let same = slice_eq-Decides flags_decide c.args.set.now c.alone.result c.eq.result c.eq.ensures in
-    ((c.loop-number.auto.number, omega (arith, c.loop-number-test.true)), same.0 c.if-eq.true ∙ c.alone.ensures)
-
 pub loop-number-preserved : goal.loop-number-preserved
-loop-number-preserved c = λ p peer below is.
-    let same = slice_eq-Decides flags_decide c.args.set.now c.alone.result c.eq.result c.eq.ensures in
+loop-number-preserved c = λ p peer below.
     elim (cases_eq p c.loop-number.number) [
-      | inl e ↦ absurd (true≢false (sym (same.1 (is ∙ ap alone e ∙ sym c.alone.ensures)) ∙ c.if-eq.false))
-      | inr other ↦ c.loop-number.invariant p peer (omega (arith, below, other)) is
+      | inl e ↦ ap (λ q. holds c.args.set.now q) e ∙ sym c.has.ensures ∙ c.if-has.false
+      | inr other ↦ c.loop-number.invariant p peer (omega (arith, below, other))
     ]
+
+pub returns-clause-none : goal.returns-clause-none
+returns-clause-none c = λ p peer is.
+    let missing = c.loop-number.invariant p peer (omega (arith, peer.1, c.loop-number-test.false)) in
+    absurd (true≢false (sym (is_alone p (omega (arith, peer.1))) ∙ ap (λ set. holds set p) (sym is) ∙ missing))
