@@ -1,6 +1,5 @@
 ghost use Rattle.std.specs.Option.{is_some};
-ghost use Rattle.std.specs.Prelude.{◌≡◌, IfOk, IfErr, Some, None};
-ghost use Rattle.kept_objects.specs.Kept.{object_in as object_in_bytes};
+ghost use Rattle.std.specs.Prelude.{◌≡◌, Some, None};
 ghost use Rattle.ens_object.specs.Objects.{object_spelling};
 ghost use Rattle.step_plans.specs.Calls.{Find, Enter, Fetch, Put, Hash};
 ghost use Rattle.step_plans.specs.Plans.{asked};
@@ -9,34 +8,12 @@ ghost use Rattle.peer_plan.specs.Owns.{digested, read, kept, fetched, held, look
 
 use crate::machine::Machine;
 use ens_base::{Bytes, Digest, Entry, Key};
-use ens_object::{Object, ObjectError};
-use kept_objects::{entry_of, matching, object_in};
-use peer_plan::seen_at;
+use ens_object::Object;
+use kept_objects::{entry_of, matching};
+use peer_plan::{bytes_of, object_of, seen_at};
 use phase_rows::Seen;
 use std::alloc::Global;
 use step_plans::{Outbox, PeerError, Store, Walked};
-
-/// Encodes the object. Fails only when out of memory.
-fn bytes_of(alloc: Global, object: &Object) -> Result<Vec<u8>, PeerError>
-    ensures ok { IfOk result (λ v. v.items ≡ object_spelling object.now) }
-    ensures memory { IfErr result (λ e. e ≡ PeerError.Memory) }
-{
-    match object.encode(alloc) {
-        Ok(bytes) => Ok(bytes),
-        Err(_) => Err(PeerError::Memory),
-    }
-}
-
-/// Decodes the object in the bytes, if they are one. Fails only when out of memory.
-fn object_of(alloc: Global, bytes: &[u8]) -> Result<Option<Object>, PeerError>
-    ensures ok { IfOk result (λ o. o ≡ object_in_bytes bytes.now) }
-    ensures memory { IfErr result (λ e. e ≡ PeerError.Memory) }
-{
-    match object_in(alloc, bytes) {
-        Ok(object) => Ok(object),
-        Err(_) => Err(PeerError::Memory),
-    }
-}
 
 impl<S> Machine<S> {
     #[tactic(auto, using(peer_plan::proofs::Parts::asked_did))]

@@ -335,9 +335,34 @@ impl<S> Machine<S> {
         Ok(())
     }
 
-    /// Rule 6: at the end of each step, a leader may end its epoch.
+    /// Rule 6: at the end of each step, a leader may end its epoch. A peer that changes no view has
+    /// nothing to end.
     #[tactic(auto, using(peer_plan::proofs::Parts::cut))]
     fn conclude<H, R: Threads + Sync>(
+        &mut self,
+        hasher: &mut H,
+        rt: &R,
+        alloc: Global,
+        out: &mut Outbox,
+        me: PeerId,
+    ) -> Result<(), PeerError>
+    where
+        S: Store<H>,
+        requires me { IsPeer me }
+        ensures acts { Acts S.does S.refuses (concluded me) self.old hasher.old out.old result self.new hasher.new out.new }
+        ensures grows { Grows out.old out.new }
+        ensures fits { IsSteady self.old.state → ¬ IsErrOf result PeerError.Memory }
+    {
+        if !self.state.phase.changes() {
+            return Ok(());
+        }
+        self.end_epoch(hasher, rt, alloc, out, me)
+    }
+
+    /// Rule 26: the epoch of a leader may end.
+    #[tactic(auto, using(peer_plan::proofs::Parts::cut))]
+    #[inline(never)]
+    fn end_epoch<H, R: Threads + Sync>(
         &mut self,
         hasher: &mut H,
         rt: &R,

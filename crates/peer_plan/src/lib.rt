@@ -14,11 +14,13 @@
 
 mod asked;
 mod laws;
+mod objects;
 mod opening;
 mod shown;
 
 pub use asked::{give_of, has_position, needs_node, own_key, question_of};
 pub use laws::{messages_may_go, nothing_is_left};
+pub use objects::{bytes_of, object_of};
 pub use opening::{first_state, is_whole};
 pub use shown::{after_put, body_given, reached_node, seen_at};
 pub use tree_repair::{NoGate, rebuild, scan};
