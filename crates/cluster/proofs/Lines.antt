@@ -1,56 +1,35 @@
 -- What a recorder makes of the lines of a script.
-use Rattle.std.proofs.Common.{◌≡◌, ◌+◌, ◌∙◌, ℕ, List, [], ◌∷◌, ◌++◌, length, take, drop, Option, Result, Ok, Err, refl, sym, ap, subst, arith, append_assoc, append-nil}
+use Rattle.std.proofs.Common.{◌≡◌, ◌+◌, ◌∙◌, ℕ, List, [], ◌∷◌, ◌++◌, length, take, drop, Option, Result, Ok, Err, refl, sym, ap, subst, append_assoc, append-nil}
+use Rattle.std.proofs.lemmas.List.{nil_from_length}
 use Rattle.std.specs.Prelude.{IsErrAnd}
 use Rattle.std.specs.Vec.Iter.{into_iter_items, into_iter_len}
 use Rattle.std.specs.declared.vec.IntoIter.{IntoIter}
 use Rattle.ens_base.specs.declared.peer_words.ClusterWords.{ClusterWords}
-use Rattle.cluster_script.specs.Scripts.{AllMayBeLines, IsScripted, MayBeLine}
+use Rattle.cluster_script.specs.Scripts.{AllMayBeLines, MayBeLine}
 use Rattle.cluster_script.specs.declared.line.ScriptLine.{ScriptLine}
 use Rattle.cluster_script.specs.declared.line.ScriptLine.TheVariants.{Event, Turn}
 use Rattle.cluster_spec.proofs.Following.{Leads, all_looks, drop_front, few_looks, take_front, leads_follows, leads_none, leads_on, part_after, part_of_first, turn_alone, turn_leads}
+use Rattle.cluster_spec.proofs.Delivering.{scripted_before, scripted_may}
 use Rattle.cluster_spec.specs.Messages.{MayBeRecorded, mail_before}
 use Rattle.cluster_spec.specs.Recordings.{Follows, IsPart, Recording, heard_all, recorded}
 use Rattle.world_model.specs.HeldStores.{Account}
 use Rattle.network.specs.Mail.{Mail}
 use Rattle.schedule_text.specs.declared.event.ScheduleEvent.{ScheduleEvent}
-use Rattle.schedule_text.specs.declared.event.ScheduleEvent.TheVariants.{Call, Tick, Change, Start}
-use Rattle.schedule_text.specs.declared.event.ScheduleEvent.TheVariants as events
 use Rattle.cluster.specs.Ends.{Looked, Went, opening}
 use Rattle.cluster.specs.Recorders.{FollowsOn, Hears, IsInStep, Reached, Records, RecordsAll, StopsAt, mail_in}
 use Rattle.cluster.specs.declared.recorder.Recorder.{Recorder}
 use Rattle.cluster.specs.declared.stop.Stop.{Stop}
-
--- an event of a script delivers nothing
-pub scripted_mail : (event : ScheduleEvent) (m : Mail) → IsScripted event → mail_before event m ≡ m
-scripted_mail (Call peer id key command) m is = refl
-scripted_mail (Tick peer ticks) m is = refl
-scripted_mail (Change peer view) m is = refl
-scripted_mail (events.Stop peer) m is = refl
-scripted_mail (Start peer) m is = refl
-scripted_mail event m is = absurd is
-
-pub scripted_may : (peers : ℕ) (m : Mail) (event : ScheduleEvent) → MayBeLine peers (Event event) → MayBeRecorded peers m event
-scripted_may peers m (Call peer id key command) may = may
-scripted_may peers m (Tick peer ticks) may = may
-scripted_may peers m (Change peer view) may = may
-scripted_may peers m (events.Stop peer) may = may
-scripted_may peers m (Start peer) may = may
-scripted_may peers m event may = absurd may.0
 
 -- the same of a line that is this event
 pub event_may : (peers : ℕ) (m : Mail) (line : ScriptLine) (event : ScheduleEvent) → line ≡ Event event → MayBeLine peers line → MayBeRecorded peers m event
 event_may peers m line event is may = scripted_may peers m event (subst (MayBeLine peers) is may)
 
 pub event_step : (c : Recorder) (line : ScriptLine) (event : ScheduleEvent) → line ≡ Event event → MayBeLine c.schedule.peers line → IsInStep c (mail_in c) → IsInStep c (mail_before event (mail_in c))
-event_step c line event is may step = subst (IsInStep c) (sym (scripted_mail event (mail_in c) (subst (MayBeLine c.schedule.peers) is may).0)) step
-
-no_lines : {X : Type 0} (xs : List X) → length xs ≡ 0 → xs ≡ []
-no_lines [] none = refl
-no_lines (x ∷ xs) none = absurd (omega arith)
+event_step c line event is may step = subst (IsInStep c) (sym (scripted_before event (mail_in c) (subst (MayBeLine c.schedule.peers) is may).0)) step
 
 -- an iterator that came to its end has no items
 pub none_left : {X A : Type 0} (it : IntoIter X A) → into_iter_len it ≡ 0 → into_iter_items it ≡ []
-none_left it none = no_lines it.rest.items (sym it.rest.ok.0 ∙ none)
+none_left it none = nil_from_length it.rest.items (sym it.rest.ok.0 ∙ none)
 
 module _ {L : Type 0} (sent : L → Option (List (ℕ × List ℕ))) (given : L → Option (List (Option (List ℕ)))) (faults : L → ℕ)
     (w : ClusterWords) (first : Account) (a : L) where

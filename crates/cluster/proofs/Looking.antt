@@ -13,6 +13,7 @@ use Rattle.ens_outside.specs.Told.{StaysTold, bytes_of}
 use Rattle.ens_outside.specs.declared.errors.LinkError.{LinkError}
 use Rattle.ens_outside.specs.declared.errors.LinkError.TheVariants as links
 use Rattle.cluster_spec.proofs.Following.{heard_more}
+use Rattle.cluster_spec.proofs.Recorded.{heard_none}
 use Rattle.cluster_spec.specs.Messages.{MayBeRecorded}
 use Rattle.cluster_spec.specs.Recordings.{Recording, delivering, found, frame_out, frames_of, heard, heard_all, recorded}
 use Rattle.frame_index.proofs.Numbers.{first_waits, settled_waits}
@@ -102,9 +103,6 @@ still_in_step c d m n world schedule index step = record {
 }
 
 -- ---- what was heard
-
-heard_nothing : (look : Option (List ℕ)) (r : Recording) → found look r.run ≡ None → heard look r ≡ r
-heard_nothing look r none = ap (λ (n : Option ℕ). delivering n r) none
 
 heard_number : (look : Option (List ℕ)) (r : Recording) (n number : ℕ) → found look r.run ≡ Some n → number ≡ n + 1 → heard look r ≡ recorded (Deliver number) r
 heard_number look r n number some is = ap (λ (k : Option ℕ). delivering k r) some ∙ ap (λ (k : ℕ). recorded (Deliver k) r) (sym is)
@@ -203,7 +201,7 @@ module _ {L : Type 0} (sent : L → Option (List (ℕ × List ℕ))) (given : L 
   -- nothing was recorded for the look
   pub hears_nothing : (link : L) (look : Option (List ℕ)) (c : Recorder) (b : L) (now : Account) → found look r.run ≡ None → At (looks ++ look ∷ []) r c b now → Handed sent given (look ∷ []) [] link b → HearsOnce link (Ok tt) c b now
   hears_nothing link look c b now none reached one =
-      let same : r ≡ heard look r = sym (heard_nothing look r none) in
+      let same : r ≡ heard look r = sym (heard_none look r none) in
       let handed : Handed sent given (look ∷ []) (frames_between r r) link b = subst (λ (fs : List (ℕ × List ℕ)). Handed sent given (look ∷ []) fs link b) (sym (none_between r)) one in (
         look ∷ [],
         refl,

@@ -143,7 +143,7 @@ module _ {L : Type 0} (sent : L → Option (List (ℕ × List ℕ))) (given : L 
         clash_again kept new text stops is_text = (valid_then, clash_ends first now stopped_schedule sound_then kept new text stops is_text (Some (schedule_text stopped_schedule)) again)
 
         pub book_again : (bytes : ℕ) (text : List ℕ) → StopsIn stopped_schedule first now (worlds.BookFull bytes) → text ≡ codes "limit book 1073741824" ++ 10 ∷ [] → ReplaysAs first now w r Status.Limit text
-        book_again bytes text stops is_text = (valid_then, book_ends first now stopped_schedule sound_then text stops is_text (Some (schedule_text stopped_schedule)) again)
+        book_again bytes text stops is_text = (valid_then, book_ends first now stopped_schedule sound_then bytes text stops is_text (Some (schedule_text stopped_schedule)) again)
 
         pub limit_again : (text : List ℕ) → StopsIn stopped_schedule first now worlds.MessageLimit → text ≡ codes "limit messages 500000" ++ 10 ∷ [] → ReplaysAs first now w r Status.Limit text
         limit_again text stops is_text = (valid_then, limit_ends first now stopped_schedule sound_then text stops is_text (Some (schedule_text stopped_schedule)) again)
@@ -244,10 +244,6 @@ pub ended_as : (w : ClusterWords) (source left : Option (List ℕ)) (before late
 ended_as w source left before later status ended is has = subst (HasRead w source left before later) (sym is) has
 
 -- ---- what holds at an error
-
-pub on_err : {A E : Type 0} (r : Result A E) (X : Type 0) → X → OnErr r X
-on_err (Ok x) X is = tt
-on_err (Err e) X is = is
 
 pub OnErr-weaker : {A E : Type 0} (r : Result A E) (X Y : Type 0) → (X → Y) → OnErr r X → OnErr r Y
 OnErr-weaker (Ok x) X Y by is = tt

@@ -9,7 +9,7 @@ use Rattle.cluster_spec.specs.Messages.{AllRecorded, IsRecorded, MayBeRecorded, 
 use Rattle.frame_index.specs.Indexes.{Indexes, queue_at}
 use Rattle.world_model.specs.HeldStores.{Account}
 use Rattle.network.specs.Mail.{IsMail, Mail, most_messages}
-use Rattle.replay.proofs.Stops.{after_strings, opening_stops, run_last}
+use Rattle.replay.proofs.Stops.{after_strings, opening_stops}
 use Rattle.replay.specs.Text.{record_text}
 use Rattle.replay.specs.Worlds.{schedule_run}
 use Rattle.schedule_text.specs.Spelling.{MayStand}
@@ -23,7 +23,7 @@ use Rattle.world_model.specs.Refusals.{IsCutOff}
 use Rattle.world_model.specs.Worlds.{MayRefuse, run_of}
 use Rattle.world_model.specs.declared.error.WorldError.{WorldError}
 use Rattle.world_model.specs.declared.world.World.{World}
-use Rattle.world_model.proofs.WorldSpec.{applied_same, peers_in}
+use Rattle.world_model.proofs.WorldSpec.{applied_same, peers_in, run_to_last}
 use Rattle.world_model.specs.WorldSpec.{applied, IsWithinMessages, Run, opening_run, posted_all, unhashed}
 use Rattle.cluster.specs.Ends.{opening, recorded_schedule}
 use Rattle.cluster.specs.Recorders.{Applies, IsInStep, IsUnopened, mail_in}
@@ -37,7 +37,7 @@ abbrev pub and_event : Schedule → ScheduleEvent → Schedule
 and_event s event = record s { events = s.events ++ event ∷ [] }
 
 pub run_and_event : (s : Schedule) (event : ScheduleEvent) → schedule_run (and_event s event) ≡ applied event (schedule_run s)
-run_and_event s event = run_last s.events event (opening_run s.form s.peers s.view)
+run_and_event s event = run_to_last s.events event (opening_run s.form s.peers s.view)
 
 -- what was hashed before makes no difference
 unhashed_after : (event : ScheduleEvent) (v : Run) → unhashed (applied event (unhashed v)) ≡ unhashed (applied event v)

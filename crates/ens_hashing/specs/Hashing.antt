@@ -51,6 +51,11 @@ abbrev pub ExceedsTold : List ℕ → Option Book → Type 0
 ExceedsTold bytes None = Unit {0}
 ExceedsTold bytes (Some book) = Exceeds bytes book
 
+-- the number of bytes that are kept in all, if known
+abbrev pub IsTotal : ℕ → Option Book → Type 0
+IsTotal n None = Unit {0}
+IsTotal n (Some book) = n ≡ total book.strings
+
 -- it is known that nothing is kept
 abbrev pub KeepsNothing : Option Book → Type 0
 KeepsNothing kept = (limit : ℕ) × (kept ≡ Some (empty_book limit))
@@ -76,11 +81,11 @@ abbrev pub IsKept : Option Book → List ℕ → Type 0
 IsKept None s = Unit {0}
 IsKept (Some book) s = Contains book.strings s
 
--- why the string was rejected: it clashes with a kept one, or it does not fit, and either raises a
--- count of its own; no count falls
+-- why the string was rejected: it clashes with a kept one, or it does not fit, and then the error has
+-- the number of bytes kept; either raises a count of its own, and no count falls
 abbrev pub Refuses : List ℕ → Option Book → ℕ → ℕ → ℕ → ℕ → HashError → Type 0
 Refuses bytes kept clashes clashes_now fulls fulls_now (Clash first second) = IsClash first.items second.items × IsKept kept first.items × (second.items ≡ bytes) × Rose clashes clashes_now × (fulls ≤ fulls_now)
-Refuses bytes kept clashes clashes_now fulls fulls_now (BookFull n) = Rose fulls fulls_now × (clashes ≤ clashes_now) × ExceedsTold bytes kept
+Refuses bytes kept clashes clashes_now fulls fulls_now (BookFull n) = Rose fulls fulls_now × (clashes ≤ clashes_now) × ExceedsTold bytes kept × IsTotal n kept
 Refuses bytes kept clashes clashes_now fulls fulls_now Memory = (clashes ≤ clashes_now) × (fulls ≤ fulls_now)
 
 -- the string was admitted, or it was rejected and the book is unchanged

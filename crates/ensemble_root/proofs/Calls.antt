@@ -14,17 +14,13 @@ use Rattle.replay.proofs.Members.{Contains_from_in, in_from_Contains}
 use Rattle.replay.specs.WorldModel.{run_of, World}
 use Rattle.ensemble_root.specs.Histories.{AreCalls, calls_in, filled, order_by, orders_by, with_calls}
 
--- a key is found where its bytes are
-at_key : (k key : List ℕ) → is_at (bytes_cmp k) key ≡ same_bytes k key
-at_key k key = is_eq-slice_cmp k key
-
 cond_if : {A : Type 0} (b : Bool) (x y : A) → cond b x y ≡ (if b then x else y)
 cond_if true x y = refl
 cond_if false x y = refl
 
 -- one history more
 pub calls_put : (h : History) (more : List History) (key : List ℕ) (old new : Option (List ℕ)) → new ≡ cond (is_at (bytes_cmp h.key) key) (Some h.calls) old → calls_in more key new ≡ calls_in (h ∷ more) key old
-calls_put h more key old new is = ap (calls_in more key) (is ∙ ap (λ (b : Bool). cond b (Some h.calls) old) (at_key h.key key) ∙ cond_if (same_bytes h.key key) (Some h.calls) old)
+calls_put h more key old new is = ap (calls_in more key) (is ∙ ap (λ (b : Bool). cond b (Some h.calls) old) (is_eq-slice_cmp h.key key) ∙ cond_if (same_bytes h.key key) (Some h.calls) old)
 
 -- the histories of these keys
 calls_none : (notes : List Note) (keys : List (List ℕ)) (key : List ℕ) (old : Option (List ℕ)) → ¬ (key ∈ keys) → calls_in (map (history_of notes) keys) key old ≡ old

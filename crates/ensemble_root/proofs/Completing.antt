@@ -1,10 +1,10 @@
 -- A root that nothing ends early runs to its end.
-use Rattle.std.proofs.Common.{◌≡◌, ◌<◌, ℕ, List, [], ◌∷◌, Option, None, Some, Result, Ok, Err, inl, inr, refl, sym, subst, ◌∙◌, arith}
+use Rattle.std.proofs.Common.{◌≡◌, ◌<◌, ℕ, List, [], Option, None, Some, Result, Ok, Err, inl, inr, refl, sym, subst, ◌∙◌, arith}
 use Rattle.std.specs.Prelude.{IsSomeAnd}
 use Rattle.ens_base.specs.declared.status.Status.{Status}
 use Rattle.ens_hashing.specs.Hashing.{total}
 use Rattle.held_stores.proofs.Books.{filled_beyond}
-use Rattle.held_stores.specs.Held.{Account, once}
+use Rattle.held_stores.specs.Held.{once}
 use Rattle.held_stores.specs.Laws.{HasClashed, HasFilled}
 use Rattle.replay.proofs.Completing.{no_clash}
 use Rattle.replay.specs.Jobs.{RanOut, nothing_hashed}

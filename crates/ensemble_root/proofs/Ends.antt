@@ -7,7 +7,7 @@ use Rattle.ens_base.specs.declared.status.Status.{Status}
 use Rattle.ens_hashing.specs.Hashing.{Book, KeepsNothing}
 use Rattle.held_stores.proofs.Books.{kept_once}
 use Rattle.held_stores.specs.Held.{Account, HasHashed, HasNoClash, HasTaken}
-use Rattle.held_stores.specs.Laws.{HasClashed, HasFilled}
+use Rattle.held_stores.specs.Laws.{HasClashed, HasFilled, HasFilledAt}
 use Rattle.replay.specs.Jobs.{HasAdmitted, clash_line}
 use Rattle.root_input.specs.Endings.{IsUnread}
 use Rattle.root_input.specs.Reading.{WasCutOff, WasTakenTo}
@@ -52,9 +52,9 @@ module _ (first now : Account) (s : RootScript) where
       by None read = inr (inl (tt, is))
       by (Some bytes) read = inr (inl ((s, read, past), is))
 
-  pub book_ending : {E : Type 0} (r : Result Ending E) (line : List ℕ) → line ≡ codes "limit book 1073741824" ++ 10 ∷ [] → IfOk r (λ e. (e.status ≡ Status.Limit) × (string_bytes e.text ≡ line)) → HasFilled (hashed_by s) first now → IfOk r (λ e. EndsSo first now s e.status (string_bytes e.text))
-  book_ending (Ok e) line is made has = subst (λ (status : Status). EndsSo first now s status (string_bytes e.text)) (sym made.0) (book_ends (string_bytes e.text) has (made.1 ∙ is))
-  book_ending (Err e) line is made has = tt
+  pub book_ending : {E : Type 0} (r : Result Ending E) (line : List ℕ) → line ≡ codes "limit book 1073741824" ++ 10 ∷ [] → IfOk r (λ e. (e.status ≡ Status.Limit) × (string_bytes e.text ≡ line)) → (n : ℕ) → HasFilledAt n (hashed_by s) first now → IfOk r (λ e. EndsSo first now s e.status (string_bytes e.text))
+  book_ending (Ok e) line is made n has = subst (λ (status : Status). EndsSo first now s status (string_bytes e.text)) (sym made.0) (book_ends (string_bytes e.text) has.0 (made.1 ∙ is))
+  book_ending (Err e) line is made n has = tt
 
   pub limit_ending : {E : Type 0} (r : Result Ending E) (line : List ℕ) → line ≡ codes "limit messages 500000" ++ 10 ∷ [] → IfOk r (λ e. (e.status ≡ Status.Limit) × (string_bytes e.text ≡ line)) → PassesLimit s → IfOk r (λ e. EndsSo first now s e.status (string_bytes e.text))
   limit_ending (Ok e) line is made past = subst (λ (status : Status). EndsSo first now s status (string_bytes e.text)) (sym made.0) (limit_ends (string_bytes e.text) past (made.1 ∙ is))

@@ -1,5 +1,5 @@
 -- The histories of the run of a script.
-use Rattle.std.proofs.Common.{◌≡◌, ℕ, zero, suc, ◌+◌, ◌<◌, ◌==◌, ◌⊎◌, Bool, true, false, if◌then◌else◌, List, [], ◌∷◌, ◌++◌, length, map, drop, slice_index, Option, None, Some, inl, inr, refl, sym, ap, subst, ◌∙◌, arith, Less, true≢false, ◌||◌, ◌^◌}
+use Rattle.std.proofs.Common.{◌≡◌, ℕ, zero, suc, ◌+◌, ◌<◌, ◌==◌, Bool, true, false, if◌then◌else◌, List, [], ◌∷◌, ◌++◌, length, map, drop, slice_index, Option, None, Some, inl, inr, refl, sym, ap, subst, ◌∙◌, arith, Less, true≢false, ◌||◌, ◌^◌}
 use Rattle.std.specs.Prelude.{Contains}
 use Rattle.std.specs.BTreeMap.{IsOrdered, get, is_at}
 use Rattle.std.specs.List.{flat_map, list_any}
@@ -8,7 +8,8 @@ use Rattle.std.specs.Ordering.{nat_cmp}
 use Rattle.std.proofs.lemmas.Bool.Decides.{nat_tests}
 use Rattle.std.proofs.lemmas.Cmp.{nat_cmp_total}
 use Rattle.std.proofs.lemmas.Map.Entries.{btree_map_get_place, place_from_lookup}
-use Rattle.ens_base.proofs.Lists.{bytes_itself, bytes_same}
+use Rattle.std.proofs.lemmas.Bool.{eqb-true}
+use Rattle.ens_base.proofs.Lists.{bytes_itself, bytes_same, in-map}
 use Rattle.ens_base.specs.Lists.{◌∈◌, bytes_cmp, same_bytes}
 use Rattle.history_scribe.specs.Histories.{AreHistories, AreSorted, history_of}
 use Rattle.history_scribe.specs.Text.{history_line}
@@ -19,6 +20,7 @@ use Rattle.replay.proofs.Members.{Contains_from_in, in_from_Contains}
 use Rattle.root_runs.proofs.Calls.{stand_behind}
 use Rattle.root_runs.proofs.Fronts.{run_openings, run_root_events, run_slot_events}
 use Rattle.root_runs.proofs.Opened.{few_events}
+use Rattle.root_runs.proofs.Sources.{from_map}
 use Rattle.root_runs.specs.Lines.{events_of, lines_from}
 use Rattle.root_runs.specs.Openings.{Opening}
 use Rattle.root_runs.specs.Runs.{ensemble_story, key_history, lines_of, lines_with, opening_of, root_lines, root_story, slot_history, story_with}
@@ -43,35 +45,13 @@ use Rattle.ensemble_root.specs.declared.worlds.RootWorlds.{RootWorlds}
 use Rattle.ensemble_root.proofs.Calls.{any_in, in_any}
 use Rattle.ensemble_root.proofs.Lists.{in_place, none_found, place_of, same_found}
 use Rattle.ensemble_root.proofs.Printing.{called_in, run_called, worlds_grow}
+use Rattle.ensemble_root.proofs.Running.{map_text}
 
 -- ## Lists
 
 flat_same : {A : Type 0} (f g : A → List ℕ) (xs : List A) → ((x : A) → x ∈ xs → f x ≡ g x) → flat_map f xs ≡ flat_map g xs
 flat_same f g [] h = refl
 flat_same f g (x ∷ xs) h = ap (λ (l : List ℕ). l ++ flat_map f xs) (h x (inl refl)) ∙ ap (λ (l : List ℕ). g x ++ l) (flat_same f g xs (λ y m. h y (inr m)))
-
-flat_map_map : {A B : Type 0} (f : B → List ℕ) (g : A → B) (xs : List A) → flat_map f (map g xs) ≡ flat_map (λ x. f (g x)) xs
-flat_map_map f g [] = refl
-flat_map_map f g (x ∷ xs) = ap (λ (l : List ℕ). f (g x) ++ l) (flat_map_map f g xs)
-
-in_map : {A B : Type 0} (f : A → B) (xs : List A) (x : A) → x ∈ xs → f x ∈ map f xs
-in_map f [] x m = m
-in_map f (y ∷ ys) x (inl is) = inl (ap f is)
-in_map f (y ∷ ys) x (inr m) = inr (in_map f ys x m)
-
-from_map : {A B : Type 0} (f : A → B) (xs : List A) (y : B) → y ∈ map f xs → (x : A) × (x ∈ xs) × (y ≡ f x)
-from_map f [] y m = absurd m
-from_map f (x ∷ xs) y (inl is) = (x, inl refl, is)
-from_map f (x ∷ xs) y (inr m) = let rest = from_map f xs y m in (rest.0, inr rest.1, rest.2)
-
-in_both : {A : Type 0} (xs ys : List A) (x : A) → x ∈ (xs ++ ys) → (x ∈ xs) ⊎ (x ∈ ys)
-in_both [] ys x m = inr m
-in_both (y ∷ xs) ys x (inl is) = inl (inl is)
-in_both (y ∷ xs) ys x (inr m) = choose (in_both xs ys x m)
-  where
-    choose : (x ∈ xs) ⊎ (x ∈ ys) → (x ∈ (y ∷ xs)) ⊎ (x ∈ ys)
-    choose (inl k) = inl (inr k)
-    choose (inr k) = inr k
 
 -- ## The keys that are called
 
@@ -112,9 +92,6 @@ root_called peers n (Open peer id slot view ∷ more) h = ap (λ (l : List (List
 root_called peers n (Look peer id slot ∷ more) h = ap (λ (l : List (List ℕ)). slot_key slot ∷ l) (root_called peers (n + 1) more h.1)
 root_called peers n (Route peer id key command ∷ more) h = root_called peers (n + 1) more h.1
 
-same_number : (m n : ℕ) → (m == n) ≡ true → m ≡ n
-same_number m n h = grind (arith, nat_tests)
-
 -- those of a slot have this slot
 slot_called : (peers n slot : ℕ) (xs : List RootEvent) (key : List ℕ) → AllMayStand peers xs → key ∈ called_in (events_of (lines_from n (Slot slot) xs)) → slot_of key ≡ slot
 slot_called peers n slot [] key h m = absurd m
@@ -131,7 +108,7 @@ slot_called peers n slot (Route peer id k command ∷ more) key h m = by (slot_o
   where
     by : (b : Bool) → (slot_of k == slot) ≡ b → key ∈ called_in (events_of (if b then record { number = n; event = line.Call peer id k command } ∷ lines_from (n + 1) (Slot slot) more else lines_from (n + 1) (Slot slot) more))
         → (key ∈ called_in (events_of (lines_from (n + 1) (Slot slot) more)) → slot_of key ≡ slot) → slot_of key ≡ slot
-    by true e (inl is) later = ap slot_of is ∙ same_number (slot_of k) slot e
+    by true e (inl is) later = ap slot_of is ∙ eqb-true (slot_of k) slot e
     by true e (inr p) later = later p
     by false e p later = later p
 
@@ -186,7 +163,7 @@ module _ (s : RootScript) (script : IsScript s) (w : RootWorlds) (stands : Stand
 
   slot_order : (slot : ℕ) → slot ∈ slots_in s.events → slot_history worlds s slot ≡ order (run_of w.root).notes (slot_key slot)
   slot_order slot m =
-      let named : slot_key slot ∈ called_in (events_of (root_lines s)) = subst (λ (l : List (List ℕ)). slot_key slot ∈ l) (sym (root_called s.peers 1 s.events script.events)) (in_map slot_key (slots_in s.events) slot m) in
+      let named : slot_key slot ∈ called_in (events_of (root_lines s)) = subst (λ (l : List (List ℕ)). slot_key slot ∈ l) (sym (root_called s.peers 1 s.events script.events)) (in-map slot_key (slots_in s.events) slot m) in
       if_yes (list_any (calls_on (slot_key slot)) (events_of (root_lines s))) (order (root_story worlds s).notes (slot_key slot)) [] (called_on (events_of (root_lines s)) (slot_key slot) named)
       ∙ ap (λ (r : Run). order r.notes (slot_key slot)) (sym root_is)
 
@@ -208,7 +185,7 @@ module _ (s : RootScript) (script : IsScript s) (w : RootWorlds) (stands : Stand
 
     slot_named : (slot : ℕ) → slot ∈ slots → slot ∈ slots_in s.events
     slot_named slot m =
-        let k : slot_key slot ∈ keys = subst (λ (l : List (List ℕ)). slot_key slot ∈ l) (sym keys_are) (in_map slot_key slots slot m) in
+        let k : slot_key slot ∈ keys = subst (λ (l : List (List ℕ)). slot_key slot ∈ l) (sym keys_are) (in-map slot_key slots slot m) in
         let n = named (slot_key slot) k in
         subst (λ (x : ℕ). x ∈ slots_in s.events) (sym (same_slot slot n.0 n.2)) n.1
 
@@ -217,7 +194,7 @@ module _ (s : RootScript) (script : IsScript s) (w : RootWorlds) (stands : Stand
 
     back : (slot : ℕ) → Contains (slots_in s.events) slot → Contains slots slot
     back slot m =
-        let called : slot_key slot ∈ (run_of w.root).called = subst (λ (l : List (List ℕ)). slot_key slot ∈ l) (sym root_keys) (in_map slot_key (slots_in s.events) slot (in_from_Contains (slots_in s.events) slot m)) in
+        let called : slot_key slot ∈ (run_of w.root).called = subst (λ (l : List (List ℕ)). slot_key slot ∈ l) (sym root_keys) (in-map slot_key (slots_in s.events) slot (in_from_Contains (slots_in s.events) slot m)) in
         let kept : slot_key slot ∈ keys = in_from_Contains keys (slot_key slot) ((are.1.same (slot_key slot)).1 (Contains_from_in (run_of w.root).called (slot_key slot) called)) in
         let there = from_map slot_key slots (slot_key slot) (subst (λ (l : List (List ℕ)). slot_key slot ∈ l) keys_are kept) in
         Contains_from_in slots slot (subst (λ (x : ℕ). x ∈ slots) (sym (same_slot slot there.0 there.2)) there.1)
@@ -225,9 +202,9 @@ module _ (s : RootScript) (script : IsScript s) (w : RootWorlds) (stands : Stand
     text : flat_map (λ (h : History). slot_history_line h.key h.calls) histories ≡ flat_map (slot_line worlds s) slots
     text =
         ap (flat_map (λ (h : History). slot_history_line h.key h.calls)) are.2
-        ∙ flat_map_map (λ (h : History). slot_history_line h.key h.calls) (history_of (run_of w.root).notes) keys
+        ∙ map_text (λ (h : History). slot_history_line h.key h.calls) (history_of (run_of w.root).notes) keys
         ∙ ap (flat_map (λ (k : List ℕ). slot_history_line k (order (run_of w.root).notes k))) keys_are
-        ∙ flat_map_map (λ (k : List ℕ). slot_history_line k (order (run_of w.root).notes k)) slot_key slots
+        ∙ map_text (λ (k : List ℕ). slot_history_line k (order (run_of w.root).notes k)) slot_key slots
         ∙ flat_same (λ (slot : ℕ). slot_history_line (slot_key slot) (order (run_of w.root).notes (slot_key slot))) (slot_line worlds s) slots
         (λ slot m. ap (λ (calls : List ℕ). slot_history_line (slot_key slot) calls) (sym (slot_order slot (slot_named slot m))))
 
@@ -395,7 +372,7 @@ module _ (s : RootScript) (script : IsScript s) (w : RootWorlds) (stands : Stand
       are.0,
       are.1,
       ap (flat_map history_line) (is ∙ ap (map (filled (λ k. orders_by w.slots.entries k None))) are.2)
-          ∙ flat_map_map history_line (filled (λ k. orders_by w.slots.entries k None)) (map (λ key. record { key = key; calls = [] }) are.0)
-          ∙ flat_map_map (λ (h : History). history_line (filled (λ k. orders_by w.slots.entries k None) h)) (λ key. record { key = key; calls = [] }) are.0
+          ∙ map_text history_line (filled (λ k. orders_by w.slots.entries k None)) (map (λ key. record { key = key; calls = [] }) are.0)
+          ∙ map_text (λ (h : History). history_line (filled (λ k. orders_by w.slots.entries k None) h)) (λ key. record { key = key; calls = [] }) are.0
           ∙ flat_same (λ (key : List ℕ). history_line (filled (λ k. orders_by w.slots.entries k None) (record { key = key; calls = [] }))) (key_line worlds s) are.0 (λ key m. ap history_line (filled_is key)),
     )

@@ -1,31 +1,11 @@
 -- Lists: fronts and rests, and maps that are functions of numbers.
-use Rattle.std.proofs.Common.{◌≡◌, ℕ, zero, suc, ◌+◌, ◌<◌, ◌≤◌, ◌==◌, true, List, [], ◌∷◌, ◌++◌, length, map, drop, take, get_or, slice_get, Option, Some, None, inl, inr, refl, sym, ap, ◌∙◌, arith}
-use Rattle.std.specs.BTreeMap.{is_at}
-use Rattle.std.specs.Ordering.{nat_cmp}
-use Rattle.std.proofs.lemmas.Bool.Decides.{nat_tests}
+use Rattle.std.proofs.Common.{◌≡◌, ℕ, zero, suc, ◌+◌, ◌<◌, ◌≤◌, List, [], ◌∷◌, ◌++◌, length, drop, take, get_or, slice_get, Option, Some, None, inl, inr, refl, sym, ap, ◌∙◌, arith, add-one}
 use Rattle.std.proofs.lemmas.Option.{same_Some, none-some}
 use Rattle.ens_base.specs.Lists.{◌∈◌}
-
-pub at_number : (a b : ℕ) → is_at (nat_cmp a) b ≡ (a == b)
-at_number a b = grind (arith, nat_tests)
-
-pub eq_yes : (m n : ℕ) → m ≡ n → (m == n) ≡ true
-eq_yes m n h = grind (arith, nat_tests, h)
-
-pub eq_from : (m n : ℕ) → (m == n) ≡ true → m ≡ n
-eq_from m n h = grind (arith, nat_tests)
-
-succ : (n : ℕ) → n + 1 ≡ suc n
-succ n = omega arith
 
 pub drop_front : {A : Type 0} (xs ys : List A) → drop (length xs) (xs ++ ys) ≡ ys
 drop_front [] ys = refl
 drop_front (x ∷ xs) ys = drop_front xs ys
-
-pub drop_append : {A : Type 0} (n : ℕ) (xs ys : List A) → n ≤ length xs → drop n (xs ++ ys) ≡ drop n xs ++ ys
-drop_append zero xs ys h = refl
-drop_append (suc n) [] ys h = absurd (omega arith)
-drop_append (suc n) (x ∷ xs) ys h = drop_append n xs ys (omega arith)
 
 pub drop_past : {A : Type 0} (n : ℕ) (xs : List A) → length xs ≤ n → drop n xs ≡ []
 drop_past zero [] h = refl
@@ -49,12 +29,6 @@ found_at [] place x lt is = absurd (omega (arith, lt))
 found_at {A = A} (e ∷ es) zero x lt is = ap (λ (y : A). Some y) (sym is)
 found_at (e ∷ es) (suc place) x lt is = found_at es place x (omega (arith, lt)) is
 
--- within a list there is something at each place
-pub some_at : {A : Type 0} (all : List A) (place : ℕ) → place < length all → (x : A) × (slice_get all place ≡ Some x)
-some_at [] place lt = absurd (omega (arith, lt))
-some_at (e ∷ es) zero lt = (e, refl)
-some_at (e ∷ es) (suc place) lt = some_at es place (omega (arith, lt))
-
 -- one answer is the other
 pub same_found : {A : Type 0} (o p : Option A) (x y : A) → p ≡ Some x → o ≡ Some y → o ≡ p → x ≡ y
 same_found o p x y one other is = same_Some x y (sym one ∙ sym is ∙ other)
@@ -64,23 +38,12 @@ none_found o p x one none is = none-some x (sym none ∙ is ∙ one)
 
 -- the first elements, and one more
 pub take_one : {A : Type 0} (all : List A) (place : ℕ) (x : A) → slice_get all place ≡ Some x → take (place + 1) all ≡ take place all ++ x ∷ []
-take_one {A = A} all place x here = ap (λ (k : ℕ). take k all) (succ place) ∙ at all place x here
+take_one {A = A} all place x here = ap (λ (k : ℕ). take k all) (add-one place) ∙ at all place x here
   where
     at : (all : List A) (place : ℕ) (x : A) → slice_get all place ≡ Some x → take (suc place) all ≡ take place all ++ x ∷ []
     at [] place x here = absurd (none-some x here)
     at (e ∷ es) zero x here = ap (λ (y : A). y ∷ []) (same_Some e x here)
     at (e ∷ es) (suc place) x here = ap (λ (l : List A). e ∷ l) (at es place x here)
-
-pub take_whole : {A : Type 0} (all : List A) (place : ℕ) → length all ≤ place → take place all ≡ all
-take_whole [] zero le = refl
-take_whole [] (suc place) le = refl
-take_whole (e ∷ es) zero le = absurd (omega (arith, le))
-take_whole {A = A} (e ∷ es) (suc place) le = ap (λ (l : List A). e ∷ l) (take_whole es place (omega (arith, le)))
-
-pub length_take : {A : Type 0} (all : List A) (place : ℕ) → place ≤ length all → length (take place all) ≡ place
-length_take all zero le = refl
-length_take [] (suc place) le = absurd (omega (arith, le))
-length_take (e ∷ es) (suc place) le = let rest = length_take es place (omega (arith, le)) in omega (arith, rest)
 
 pub take_size : {A : Type 0} (place : ℕ) (all : List A) → length (take place all) ≤ place
 take_size zero all = omega arith
@@ -88,7 +51,7 @@ take_size (suc place) [] = omega arith
 take_size (suc place) (e ∷ es) = let rest = take_size place es in omega (arith, rest)
 
 pub drop_one : {A : Type 0} (all : List A) (place : ℕ) (x : A) → slice_get all place ≡ Some x → drop place all ≡ x ∷ drop (place + 1) all
-drop_one {A = A} all place x here = at all place x here ∙ ap (λ (k : ℕ). x ∷ drop k all) (sym (succ place))
+drop_one {A = A} all place x here = at all place x here ∙ ap (λ (k : ℕ). x ∷ drop k all) (sym (add-one place))
   where
     at : (all : List A) (place : ℕ) (x : A) → slice_get all place ≡ Some x → drop place all ≡ x ∷ drop (suc place) all
     at [] place x here = absurd (none-some x here)
@@ -103,7 +66,3 @@ parted {A = A} (e ∷ es) (suc place) = ap (λ (l : List A). e ∷ l) (parted es
 
 pub split_at : {A : Type 0} (all : List A) (place : ℕ) (x : A) → slice_get all place ≡ Some x → all ≡ take place all ++ x ∷ drop (place + 1) all
 split_at {A = A} all place x here = parted all place ∙ ap (λ (l : List A). take place all ++ l) (drop_one all place x here)
-
-pub map_append : {A B : Type 0} (f : A → B) (xs ys : List A) → map f (xs ++ ys) ≡ map f xs ++ map f ys
-map_append f [] ys = refl
-map_append {B = B} f (x ∷ xs) ys = ap (λ (l : List B). f x ∷ l) (map_append f xs ys)

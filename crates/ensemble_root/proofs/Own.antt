@@ -1,5 +1,5 @@
 -- The events of one ensemble may stand in a schedule, and their calls have distinct ids.
-use Rattle.std.proofs.Common.{◌≡◌, ℕ, zero, suc, ◌+◌, ◌*◌, ◌<◌, ◌≤◌, ◌⊎◌, Bool, true, false, if◌then◌else◌, List, [], ◌∷◌, ◌++◌, length, get_or, slice_get, drop, Option, None, Some, inl, inr, refl, sym, ap, subst, ◌∙◌, arith, length-append}
+use Rattle.std.proofs.Common.{◌≡◌, ℕ, zero, suc, ◌+◌, ◌*◌, ◌<◌, ◌≤◌, ◌⊎◌, Bool, true, false, if◌then◌else◌, List, [], ◌∷◌, ◌++◌, length, get_or, slice_get, drop, Option, None, Some, inl, inr, refl, sym, ap, subst, arith}
 use Rattle.std.specs.List.{flat_map}
 use Rattle.std.proofs.lemmas.Option.{same_Some, none-some}
 use Rattle.byteorder.specs.Endian.{big_bytes}
@@ -9,6 +9,7 @@ use Rattle.ens_base.specs.Lists.{◌∈◌, AreDistinct}
 use Rattle.ens_base.specs.View.{IsView}
 use Rattle.ens_base.specs.declared.copy_error.LengthError.{LengthError}
 use Rattle.ens_fields.specs.Views.{view_spelling}
+use Rattle.ens_fields.proofs.MemberLoop.{length-members}
 use Rattle.root_runs.specs.Lines.{ensemble_of, events_of, lines_from, own_event, same_ensemble}
 use Rattle.root_runs.specs.Slots.{slot_key}
 use Rattle.root_script.specs.Spelling as script
@@ -46,15 +47,8 @@ members_bytes : (ms : List ℕ) → IsBytes (flat_map (big_bytes 4) ms)
 members_bytes [] i = omega arith
 members_bytes (m ∷ ms) i = bytes_append (big_bytes 4 m) (flat_map (big_bytes 4) ms) (four_bytes m) (members_bytes ms) i
 
-members_size : (ms : List ℕ) → length (flat_map (big_bytes 4) ms) ≡ 4 * length ms
-members_size [] = refl
-members_size (m ∷ ms) =
-    let rest = members_size ms in
-    let four : length (big_bytes 4 m) ≡ 4 = refl in
-    length-append (big_bytes 4 m) (flat_map (big_bytes 4) ms) ∙ omega (arith, rest, four)
-
 pub spelling_size : (view : List ℕ) → length (view_spelling view) ≡ 4 * length view + 1
-spelling_size view = let rest = members_size view in omega (arith, rest)
+spelling_size view = let rest = length-members view in omega (arith, rest)
 
 view_is_value : (view : List ℕ) → IsView view → IsValue (view_spelling view)
 view_is_value view h = record { size = omega (arith, spelling_size view, h.size.1); bytes = bytes }

@@ -18,6 +18,7 @@ use Rattle.world_spec.specs.Lines.{call_of, everyone, set_of, effect, applied, k
 use Rattle.world_spec.specs.Nodes.{Node, taken, started, stopped, over_stores, while_down}
 use Rattle.world_spec.specs.Runs.{Run, mode_at, next_event, opening_run, answer_line, change_line, printed_by, place_of, stepped_at, stepped, changed_at, changed, may_deepen, deepened, with_deepening, ticked, received, without_waiting, received_if, delivered, delivered_if, going_on, calmed}
 use Rattle.world_spec.specs.Stores.{failing, leaves_of, spoiled, segment_spoiled, inner_spoiled, taken_back}
+use Rattle.world_spec.proofs.Calming.{run_to_last}
 use Rattle.root_runs.specs.Steps.{GrowByLine, IsAt, printed_next}
 use Rattle.root_runs.specs.Worlds.{answers_in}
 use Rattle.ensemble_root.specs.Worlds.{newest, world, worlds}
@@ -161,10 +162,6 @@ module _ (n : ℕ) where
 
 -- ## Runs
 
-pub run_last : (lines : List ScheduleEvent) (line : ScheduleEvent) (w : Run) → run_from (lines ++ line ∷ []) w ≡ applied line (run_from lines w)
-run_last [] line w = refl
-run_last (e ∷ lines) line w = run_last lines line (applied e w)
-
 -- the run of these events has counted them
 counted : (events : List ScheduleEvent) (w : Run) → w.events + length events < 2 ^ 32 → (run_from events w).events ≡ w.events + length events
 counted [] w few = omega arith
@@ -204,7 +201,7 @@ module _ (peers : ℕ) (view : List ℕ) (done : List ScheduleEvent) (event : Sc
   step = effect_prints (next_event before.events) event before refl
 
   printed_after : after.printed ≡ before.printed ++ step.lines
-  printed_after = ap (λ (w : Run). w.printed) (run_last done event (opening_run newest peers view)) ∙ step.printed
+  printed_after = ap (λ (w : Run). w.printed) (run_to_last done event (opening_run newest peers view)) ∙ step.printed
 
   next_is : printed_next worlds peers view done event ≡ step.lines
   next_is = ap (drop (length before.printed)) printed_after ∙ drop_front before.printed step.lines

@@ -11,12 +11,14 @@ use Rattle.root_runs.specs.Openings.{Opening, told_by}
 use Rattle.root_runs.specs.Runs.{RootPrinted, by, numbered}
 use Rattle.root_runs.specs.Steps.{Branch, Roots, open_lines, open_slot, open_told, printed_next, put, said}
 use Rattle.root_runs.specs.Text.{printed_line}
+use Rattle.root_runs.proofs.Told.{map_append}
 use Rattle.root_script.specs.declared.event.RootEvent.{RootEvent}
 use Rattle.root_script.specs.declared.script.RootScript.{RootScript}
 use Rattle.root_script.specs.declared.slots.Ensemble.{Ensemble}
 use Rattle.schedule_text.specs.declared.event.ScheduleEvent.{ScheduleEvent}
 use Rattle.replay.specs.WorldModel.{IsCutOff, MayRefuse, run_of, WorldError, BookFull, Clash, Memory, MessageLimit, World}
-use Rattle.world_spec.proofs.Fronts.{applied_front}
+use Rattle.replay.proofs.Stops.{after_strings}
+use Rattle.world_spec.proofs.Calming.{run_to_last}
 use Rattle.world_spec.specs.Lines.{applied}
 use Rattle.world_spec.specs.Messages.{IsPastMessages, IsWithinMessages}
 use Rattle.world_spec.specs.Runs.{Run, in_front, opening_run, unhashed}
@@ -25,21 +27,14 @@ use Rattle.ensemble_root.specs.Hashed.{opened_hashed, opened_since}
 use Rattle.ensemble_root.specs.Standing.{RunsSlot, Stands, line_at, open_line, told_in}
 use Rattle.ensemble_root.specs.Worlds.{newest, world, worlds}
 use Rattle.ensemble_root.specs.declared.worlds.RootWorlds.{RootWorlds}
-use Rattle.ensemble_root.proofs.Lists.{at_number, drop_front, map_append}
-use Rattle.ensemble_root.proofs.Printing.{run_last}
+use Rattle.ensemble_root.proofs.Lists.{drop_front}
+use Rattle.history_record.proofs.Gathered.{at_number}
 
 -- ## One world
 
--- a line hashes the same strings whatever was hashed before
-pub after_strings : (line : ScheduleEvent) (w : Run) → applied line w ≡ in_front w.hashed (applied line (unhashed w))
-after_strings line w = ap (applied line) begun ∙ applied_front line w.hashed (unhashed w)
-  where
-    begun : w ≡ in_front w.hashed (unhashed w)
-    begun = ap (λ (h : List (List ℕ)). record w { hashed = h }) (sym (append-nil w.hashed))
-
 -- the run of one event more
 pub one_more : (peers : ℕ) (view : List ℕ) (done : List ScheduleEvent) (event : ScheduleEvent) → world peers view (done ++ event ∷ []) ≡ in_front (world peers view done).hashed (applied event (unhashed (world peers view done)))
-one_more peers view done event = run_last done event (opening_run newest peers view) ∙ after_strings event (world peers view done)
+one_more peers view done event = run_to_last done event (opening_run newest peers view) ∙ after_strings event (world peers view done)
 
 module _ (peers : ℕ) (view : List ℕ) (done : List ScheduleEvent) (event : ScheduleEvent) (now : Run) (is : now ≡ unhashed (world peers view done)) where
   abbrev due : Run
@@ -75,7 +70,7 @@ module _ (peers : ℕ) (view : List ℕ) (done : List ScheduleEvent) (event : Sc
 
 -- ## Text
 
-map_text : {A B : Type 0} (f : B → List ℕ) (g : A → B) (xs : List A) → flat_map f (map g xs) ≡ flat_map (λ x. f (g x)) xs
+pub map_text : {A B : Type 0} (f : B → List ℕ) (g : A → B) (xs : List A) → flat_map f (map g xs) ≡ flat_map (λ x. f (g x)) xs
 map_text f g [] = refl
 map_text f g (x ∷ xs) = ap (λ (l : List ℕ). f (g x) ++ l) (map_text f g xs)
 

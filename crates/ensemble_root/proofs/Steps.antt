@@ -1,5 +1,6 @@
 -- One line of a script after another.
 use Rattle.std.proofs.Common.{◌≡◌, ℕ, ◌+◌, ◌≤◌, ◌==◌, Bool, true, false, cond, if◌then◌else◌, List, [], ◌∷◌, ◌++◌, length, map, drop, take, slice_get, Option, Some, None, Result, Ok, Err, refl, sym, ap, subst, ◌∙◌, append-nil, append_assoc, length-append, arith, string_bytes}
+use Rattle.std.proofs.lemmas.List.{take_all, length-take-le}
 use Rattle.std.specs.Prelude.{is_some}
 use Rattle.std.specs.BTreeMap.{get, is_at}
 use Rattle.std.specs.List.{flat_map}
@@ -14,6 +15,7 @@ use Rattle.root_runs.specs.Openings.{Opening}
 use Rattle.root_runs.specs.Runs.{by}
 use Rattle.root_runs.specs.Steps.{Branch, Roots, at_first, in_slot, open_lines, open_slot, printed_next, put, refusal, said, step, steps}
 use Rattle.root_runs.specs.Text.{printed_line}
+use Rattle.root_runs.proofs.Fronts.{drop_append}
 use Rattle.root_script.specs.declared.event.RootEvent.{RootEvent}
 use Rattle.root_script.specs.declared.script.RootScript.{RootScript}
 use Rattle.root_script.specs.declared.slots.Ensemble.TheVariants.{Root, Slot}
@@ -28,8 +30,9 @@ use Rattle.ensemble_root.specs.Hashed.{hashed_by, line_hashed, lines_hashed, ope
 use Rattle.ensemble_root.specs.Standing.{Goes, RunsSlot, Stands, line_at, open_line}
 use Rattle.ensemble_root.specs.Worlds.{branch_run, events_in, newest, world, worlds}
 use Rattle.ensemble_root.specs.declared.worlds.RootWorlds.{RootWorlds}
-use Rattle.ensemble_root.proofs.Lists.{at_number, drop_append, drop_past, length_take, parted, split_at, take_one, take_size, take_whole}
+use Rattle.ensemble_root.proofs.Lists.{drop_past, parted, split_at, take_one, take_size}
 use Rattle.ensemble_root.proofs.Running.{hashed_more, line_opens, lines_both, lines_one, lines_open, said_text, since_none, slot_hashed, slot_kept, slot_stands, text_more, world_next, world_prints, world_refused}
+use Rattle.history_record.proofs.Gathered.{at_number}
 
 -- ## Calls after one another
 
@@ -247,7 +250,7 @@ module _ (s : RootScript) (place : ℕ) (first : Account) (old new : RootWorlds)
   opens = (opening_run newest s.peers s.view).hashed
 
   number : 1 + length before ≡ place + 1
-  number = omega (arith, length_take s.events place few)
+  number = omega (arith, length-take-le place s.events few)
 
   next_steps : steps worlds s 1 (take (place + 1) s.events) at_first ≡ step worlds s (place + 1) line so_far
   next_steps = ap (λ (l : List RootEvent). steps worlds s 1 l at_first) (take_one s.events place line here) ∙ steps_last s 1 before line at_first ∙ ap (λ (k : ℕ). step worlds s k line so_far) number
@@ -292,7 +295,7 @@ opening_stops s first now (BookFull bytes) cut = cut_off_further (opening_run ne
 -- after the last line
 pub doing_last : (s : RootScript) (place : ℕ) (first : Account) (w : RootWorlds) (now : Account) → length s.events ≤ place → Doing s place first w now → Stands s (steps worlds s 1 s.events at_first) w × HasHashed (hashed_by s) first now
 doing_last s place first w now le doing =
-    let whole : take place s.events ≡ s.events = take_whole s.events place le in (
+    let whole : take place s.events ≡ s.events = take_all place s.events le in (
       subst (λ (l : List RootEvent). Stands s (steps worlds s 1 l at_first) w) whole doing.stands,
       subst (λ (l : List RootEvent). HasHashed ((opening_run newest s.peers s.view).hashed ++ lines_hashed s 1 l at_first) first now) whole doing.has,
     )
@@ -364,7 +367,7 @@ module _ (s : RootScript) (number before : ℕ) (printed_by : List Printed) (r :
     one_line : after_lines (place + 1) ≡ open_line s.events number line (after_lines place)
     one_line =
         ap (λ (l : List Printed). open_lines s.events number (drop before l) r) (take_one printed_by place line here)
-        ∙ ap (λ (l : List Printed). open_lines s.events number l r) (drop_append before (take place printed_by) (line ∷ []) (omega (arith, low, length_take printed_by place high)))
+        ∙ ap (λ (l : List Printed). open_lines s.events number l r) (drop_append before (take place printed_by) (line ∷ []) (omega (arith, low, length-take-le place printed_by high)))
         ∙ lines_one s.events number (drop before (take place printed_by)) line r
 
     strings : after_hashed (place + 1) ≡ after_hashed place ++ opened_hashed s (opened_since (after_lines place) (open_line s.events number line (after_lines place)))
@@ -392,7 +395,7 @@ module _ (s : RootScript) (number before : ℕ) (printed_by : List Printed) (r :
         )
       where
         longer : place ≤ length (take (place + 1) printed_by)
-        longer = omega (arith, ap (λ (l : List Printed). length l) (take_one printed_by place line here), length-append (take place printed_by) (line ∷ []), length_take printed_by place high)
+        longer = omega (arith, ap (λ (l : List Printed). length l) (take_one printed_by place line here), length-append (take place printed_by) (line ∷ []), length-take-le place printed_by high)
 
     pub lines_refused : (T : Type 0) (new : RootWorlds) (first mid now : Account) (e : WorldError) (Passes : Type 0) (last : Roots) → HasHashed (after_hashed place) first mid
         → Goes {T = T} s (open_line s.events number line (after_lines place)) (opened_hashed s (opened_since (after_lines place) (open_line s.events number line (after_lines place)))) Passes mid now new (Err e)
@@ -410,7 +413,7 @@ module _ (s : RootScript) (number before : ℕ) (printed_by : List Printed) (r :
 
   pub lines_last : (place : ℕ) (w : RootWorlds) (first now : Account) → length printed_by ≤ place → Stands s (after_lines place) w × HasHashed (after_hashed place) first now
       → Stands s (open_lines s.events number (drop before printed_by) r) w × HasHashed (opened_hashed s (opened_since r (open_lines s.events number (drop before printed_by) r))) first now
-  lines_last place w first now le goes = subst (λ (l : List Printed). Stands s (open_lines s.events number (drop before l) r) w × HasHashed (opened_hashed s (opened_since r (open_lines s.events number (drop before l) r))) first now) (take_whole printed_by place le) goes
+  lines_last place w first now le goes = subst (λ (l : List Printed). Stands s (open_lines s.events number (drop before l) r) w × HasHashed (opened_hashed s (opened_since r (open_lines s.events number (drop before l) r))) first now) (take_all place printed_by le) goes
 
 -- ## What is found in a map
 

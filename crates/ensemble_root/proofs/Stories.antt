@@ -1,14 +1,14 @@
 -- The run of each ensemble is legal.
-use Rattle.std.proofs.Common.{◌≡◌, ℕ, suc, ◌+◌, ◌<◌, ◌≤◌, ◌^◌, Bool, true, false, ◌||◌, if◌then◌else◌, List, [], ◌∷◌, length, inl, inr, refl, sym, ap, subst, ◌∙◌, arith}
+use Rattle.std.proofs.Common.{◌≡◌, ℕ, ◌+◌, ◌<◌, ◌≤◌, ◌^◌, Bool, true, false, ◌||◌, if◌then◌else◌, List, [], ◌∷◌, length, inl, inr, refl, sym, ap, subst, ◌∙◌, arith}
 use Rattle.std.proofs.lemmas.Bool.{false≢true}
 use Rattle.std.specs.List.{list_any}
-use Rattle.std.specs.Prelude.{Contains}
 use Rattle.abstract_protocol.specs.Protocol.{State, opening}
 use Rattle.call_refinement.proofs.Agreement.{Stands as StandsFor, carried}
 use Rattle.call_refinement.proofs.Causes.{causes_of}
 use Rattle.call_refinement.proofs.Histories.{order_legal}
 use Rattle.call_refinement.proofs.OpeningWorld.{opening_holds}
 use Rattle.call_refinement.proofs.Schedules.{IsAfter, IsCarried, schedule_agrees}
+use Rattle.call_refinement.proofs.ScheduleLaws.{in_contains}
 use Rattle.call_refinement.specs.Causes.{HaveCauses}
 use Rattle.call_refinement.specs.Lines as refined
 use Rattle.call_refinement.specs.Lines.{BookAgrees, lines_of as said_of}
@@ -47,11 +47,6 @@ answers_same : (ps : List Printed) → refined.answers_in ps ≡ answers_in ps
 answers_same [] = refl
 answers_same (printed.Answer a ∷ more) = ap (λ (l : List Answer). a ∷ l) (answers_same more)
 answers_same (printed.Change event peer taken ∷ more) = answers_same more
-
-in_contains : (strings : List (List ℕ)) (x : List ℕ) → x ∈ strings → Contains strings x
-in_contains [] x at = absurd at
-in_contains (y ∷ strings) x (inl same) = (0, omega arith, sym same)
-in_contains (y ∷ strings) x (inr at) = let there = in_contains strings x at in let within = there.1 in (suc there.0, omega (arith, within), there.2)
 
 -- no call is on a key that none of the events is a call on
 none_called : (n : ℕ) (key : List ℕ) (events : List ScheduleEvent) (c : Call) → list_any (calls_on key) events ≡ false → c ∈ calls_from n events → same_bytes c.key key ≡ false

@@ -2,10 +2,10 @@
 use Rattle.std.proofs.Common.{◌≡◌, ℕ, zero, suc, ◌<◌, ◌≤◌, ◌==◌, Bool, true, false, if◌then◌else◌, List, [], ◌∷◌, length, Option, None, Some, Result, Ok, Err, refl, ap, subst, arith}
 use Rattle.std.specs.Prelude.{find, nat_le, nat_lt, ◌&&◌}
 use Rattle.std.proofs.lemmas.Bool.Decides.{nat_tests}
-use Rattle.ens_base.specs.Results.{◌>>=◌}
 use Rattle.ens_base.specs.View.{IsView}
 use Rattle.ens_base.specs.declared.reply.Reply.{Reply}
 use Rattle.ens_fields.proofs.ViewLaws.{IsAbove, view_of_above}
+use Rattle.ens_fields.proofs.GrammarLaws.{bind_ok}
 use Rattle.ens_fields.specs.Numbers.{byte_at, number_at}
 use Rattle.ens_fields.specs.Views.{member_at, members_at, view_at}
 use Rattle.ens_fields.specs.declared.field_error.FieldError.{FieldError}
@@ -17,10 +17,6 @@ use Rattle.root_script.specs.Progress.{has_id}
 use Rattle.root_script.specs.Spelling.{AllMayStand, MayStand}
 use Rattle.root_script.specs.declared.event.RootEvent.{RootEvent}
 use Rattle.root_script.specs.declared.event.RootEvent.TheVariants.{At, Open, Look, Route}
-
-bind_ok : {A B E : Type 0} (r : Result A E) (f : A → Result B E) (y : B) → (r >>= f) ≡ Ok y → (x : A) × (r ≡ Ok x) × (f x ≡ Ok y)
-bind_ok (Ok x) f y h = (x, refl, h)
-bind_ok (Err e) f y h = absurd cc
 
 if_ok : {A E : Type 0} (b : Bool) (x y : A) (e : E) → (let r : Result A E = if b then Ok x else Err e in r ≡ Ok y) → (b ≡ true) × (x ≡ y)
 if_ok true x y e h = (refl, cc h)

@@ -58,11 +58,11 @@ from_walk : {A : Type 0} (call : Call) (tells : End A → Result (AnswerOf call)
 from_walk call tells root w end s t hashed now is top version backend facts =
     rw is (let same = with_its_tree s t (version_given call s.tree.version end) t.tree.store (root s.tree.top end) backend facts version refl top in ap (λ k. record { result = tells end; held = held_with k now }) same)
 
-some_root : (P : List ℕ → Type 0) (o : Option (List ℕ)) → IsSomeAnd o P → (root : List ℕ) × (o ≡ Some root) × P root
+pub some_root : (P : List ℕ → Type 0) (o : Option (List ℕ)) → IsSomeAnd o P → (root : List ℕ) × (o ≡ Some root) × P root
 some_root P (Some root) is = (root, refl, is)
 some_root P None is = absurd is
 
-looked_end : {A : Type 0} (w : Walked A) → looked (end_was (end_of w)) ≡ Ok w
+pub looked_end : {A : Type 0} (w : Walked A) → looked (end_was (end_of w)) ≡ Ok w
 looked_end (Reached x) = refl
 looked_end (Broken at) = refl
 
@@ -211,7 +211,7 @@ module _ {H : Type 0} (strings : H → Option Book) (c d : H → ℕ) (first : A
       inl (rw off.0.3 rejected, off.0.1, rw off.0.0 off.0.2, rose_since first.clashes (c s.1) (c t.1) taken.clashes off.0.4)
   hash_refused bytes s t hashed (errors.BookFull n) taken off =
       let rejected = rejected_at hashed (hashed ++ bytes ∷ []) first bytes (known t.1) (starts_here (hashed ++ bytes ∷ [])) (rw off.0.0 taken.taken) in
-      inl (bytes, rejected, rose_since first.fulls (d s.1) (d t.1) taken.fulls off.0.1, rw off.0.0 off.0.3)
+      inl ((bytes, rejected, rose_since first.fulls (d s.1) (d t.1) taken.fulls off.0.1, rw off.0.0 off.0.3), rw off.0.0 off.0.4)
 
   save_refused : (fact : _) (s t : HeldStores × H) (hashed : List (List ℕ)) (e : PeerError) → HasHashed hashed first (known s.1) → HeldRefuse strings c d s (Save fact) e t → IsRefused (Save fact) s hashed e t
   save_refused fact s t hashed e taken off = inr (

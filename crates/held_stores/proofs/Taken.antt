@@ -44,7 +44,7 @@ rejected_further xs ys first bytes now starts has = record {
 pub unplanned_further : (xs ys : List (List ℕ)) (first now : Account) (e : PeerError) → StartsWith xs ys → IsUnplanned xs first now e → IsUnplanned ys first now e
 unplanned_further xs ys first now errors.Memory starts cut = tt
 unplanned_further xs ys first now (errors.Clash kept new) starts cut = (rejected_further xs ys first new now starts cut.0, cut.1, cut.2, cut.3)
-unplanned_further xs ys first now (errors.BookFull kept) starts cut = (cut.0, rejected_further xs ys first cut.0 now starts cut.1, cut.2, cut.3)
+unplanned_further xs ys first now (errors.BookFull kept) starts cut = (let filled = cut.0 in (filled.0, rejected_further xs ys first filled.0 now starts filled.1, filled.2, filled.3), cut.1)
 unplanned_further xs ys first now errors.StoreFault starts cut = absurd cut
 unplanned_further xs ys first now errors.Halted starts cut = absurd cut
 unplanned_further xs ys first now (errors.BadFact why) starts cut = absurd cut

@@ -10,7 +10,7 @@ use Rattle.synctree.specs.declared.error.TreeError.TheVariants as trees
 use Rattle.tree_node.specs.declared.position.Position.{Position}
 use Rattle.world_stores.specs.Nodes.{Nodes, NodesDo, NodesRefuse, refusal, answer, after, top_of}
 use Rattle.held_stores.specs.Held.{Account, account, HasHashed, StartsWith, unless_failing}
-use Rattle.held_stores.specs.Laws.{HasClashed, HasFilled}
+use Rattle.held_stores.specs.Laws.{HasClashed, HasFilledAt}
 use Rattle.held_stores.specs.Walks.{End, Came, Broke, Failed, Walk, walk, nodes_failed}
 use Rattle.held_stores.proofs.Taken.{starts_here, starts_before, rejected_at, rose_since, hashed_more}
 
@@ -24,7 +24,7 @@ abbrev pub IsUnplannedTree : List (List ℕ) → Account → Account → TreeErr
 IsUnplannedTree strings first now (trees.Damaged at) = ⊥
 IsUnplannedTree strings first now trees.Failed = ⊥
 IsUnplannedTree strings first now (trees.Clash kept new) = HasClashed strings first kept.items new.items now
-IsUnplannedTree strings first now (trees.BookFull kept) = HasFilled strings first now
+IsUnplannedTree strings first now (trees.BookFull kept) = HasFilledAt kept strings first now
 IsUnplannedTree strings first now trees.Memory = Unit {0}
 
 pub goes_on : {R : Type 0} (o : Option Leaves) (goes w : R) (fails : Leaves → R) → o ≡ None → goes ≡ w → unless_failing o goes fails ≡ w
@@ -114,7 +114,7 @@ module _ {H : Type 0} (strings : H → Option Book) (c d : H → ℕ) (first : A
       (rw off.2.2 rejected, off.2.0, rw off.1 off.2.1, rose_since first.clashes (c s.1) (c t.1) taken.clashes off.2.3)
   hash_refused bytes next s t hashed (trees.BookFull n) taken off =
       let rejected = rejected_at hashed (walk (next tt) s.0 (hashed ++ bytes ∷ [])).hashed first bytes (tells t.1) (walk_grows (next tt) s.0 (hashed ++ bytes ∷ [])) (rw off.1 taken.taken) in
-      (bytes, rejected, rose_since first.fulls (d s.1) (d t.1) taken.fulls off.2.0, rw off.1 off.2.2)
+      ((bytes, rejected, rose_since first.fulls (d s.1) (d t.1) taken.fulls off.2.0, rw off.1 off.2.2), rw off.1 off.2.3)
   hash_refused bytes next s t hashed trees.Memory taken off = tt
 
   hash_walk : {A : Type 0} (bytes : List ℕ) (next : Unit {0} → Plan A) (s : Nodes) (hashed : List (List ℕ)) → walk (Ask (Hash bytes) next) s hashed ≡ walk (next tt) s (hashed ++ bytes ∷ [])

@@ -1,7 +1,7 @@
 -- The only run of a plan.
 use Rattle.std.specs.Prelude.{◌≡◌, ◌⊎◌, ◌<◌, ◌≤◌, ℕ, List, ◌∷◌, ◌++◌, Option, Some}
 use Rattle.ens_base.specs.Causes.{Rose}
-use Rattle.ens_hashing.specs.Hashing.{Book, ExceedsTold, IsClash, IsKept, AreClashFree, empty_book, total}
+use Rattle.ens_hashing.specs.Hashing.{Book, ExceedsTold, IsClash, IsKept, IsTotal, AreClashFree, empty_book, total}
 use Rattle.register_model.specs.declared.note.Note.{Note}
 use Rattle.step_plans.specs.Calls.{Call, AnswerOf}
 use Rattle.step_plans.specs.Plans.{Plan, Ending, Finished, Stopped, Runs}
@@ -41,11 +41,15 @@ HasClashed strings first kept new now = HasRejected strings first new now × IsC
 abbrev pub HasFilled : List (List ℕ) → Account → Account → Type 0
 HasFilled strings first now = (bytes : List ℕ) × HasRejected strings first bytes now × Rose first.fulls now.fulls × ExceedsTold bytes now.kept
 
+-- and this is the number of bytes that the hasher keeps, if that is known
+abbrev pub HasFilledAt : ℕ → List (List ℕ) → Account → Account → Type 0
+HasFilledAt n strings first now = HasFilled strings first now × IsTotal n now.kept
+
 -- out of memory, or the hasher rejected the next of these strings
 abbrev pub IsUnplanned : List (List ℕ) → Account → Account → PeerError → Type 0
 IsUnplanned strings first now Memory = Unit {0}
 IsUnplanned strings first now (Clash kept new) = HasClashed strings first kept new now
-IsUnplanned strings first now (BookFull kept) = HasFilled strings first now
+IsUnplanned strings first now (BookFull kept) = HasFilledAt kept strings first now
 IsUnplanned strings first now e = ⊥
 
 -- such an error ended the run, which was to hash these strings

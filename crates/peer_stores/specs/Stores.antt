@@ -1,7 +1,7 @@
 -- What the three stores of a peer and the hasher lent to them may answer, taken together.
 use Rattle.std.specs.Prelude.{◌≡◌, ◌⊎◌, ◌≤◌, ℕ, List, Option, Some, Result, Ok, Err}
 use Rattle.ens_base.specs.Causes.{Rose}
-use Rattle.ens_hashing.specs.Hashing.{Book, ExceedsTold, IsClash, IsKept, Stays, Takes}
+use Rattle.ens_hashing.specs.Hashing.{Book, ExceedsTold, IsClash, IsKept, IsTotal, Stays, Takes}
 use Rattle.ens_hashing.specs.declared.error.HashError.{HashError}
 use Rattle.ens_hashing.specs.declared.error.HashError.TheVariants as hashes
 use Rattle.ens_outside.specs.Stores.{BackendCall, BackendAnswer, Get, Put as PutObject, NodeCall, NodeAnswer}
@@ -61,7 +61,7 @@ hash_error hashes.Memory = errors.Memory
 abbrev pub HashRefuses : {H : Type 0} → (H → Option Book) → (H → ℕ) → (H → ℕ) → List ℕ → H → PeerError → H → Type 0
 HashRefuses strings c d bytes h (errors.Clash first second) k =
     Stays (strings h) (strings k) × IsClash first second × IsKept (strings h) first × (second ≡ bytes) × Rose (c h) (c k) × (d h ≤ d k)
-HashRefuses strings c d bytes h (errors.BookFull kept) k = Stays (strings h) (strings k) × Rose (d h) (d k) × (c h ≤ c k) × ExceedsTold bytes (strings h)
+HashRefuses strings c d bytes h (errors.BookFull kept) k = Stays (strings h) (strings k) × Rose (d h) (d k) × (c h ≤ c k) × ExceedsTold bytes (strings h) × IsTotal kept (strings h)
 HashRefuses strings c d bytes h errors.Memory k = Stays (strings h) (strings k) × (c h ≤ c k) × (d h ≤ d k)
 HashRefuses strings c d bytes h e k = ⊥
 

@@ -18,12 +18,12 @@ use Rattle.schedule_input.specs.declared.read.ReadError.TheVariants as read
 use Rattle.schedule_premise.specs.Premise.{first_unsound}
 use Rattle.schedule_text.specs.Progress.{Blank}
 use Rattle.schedule_text.specs.Reading.{schedule_of}
-use Rattle.schedule_text.specs.declared.error.ScheduleError.{ScheduleError}
 use Rattle.schedule_text.specs.declared.schedule.Schedule.{Schedule}
 use Rattle.world_model.specs.WorldSpec.{IsPastMessages, IsWithinMessages}
 use Rattle.replay.specs.Jobs.{HasRead, IsRunnable, Prints, PrintsWith, RanOut, hashed_by, nothing_hashed}
 use Rattle.replay.specs.Worlds.{schedule_run}
 use Rattle.replay.proofs.Members.{Contains_from_in, in_from_Contains}
+use Rattle.replay.proofs.Texts.{same_ok, no_error, not_found}
 
 -- ---- what a book keeps is among the strings that it took
 
@@ -69,15 +69,6 @@ no_clash strings now kept new has apart = has.1.differ (apart kept new (Contains
 
     new_in : new ∈ strings
     new_in = subst (λ (xs : List (List ℕ)). new ∈ xs) (sym has.0.are) (in_right has.0.before (new ∷ has.0.later) new (inl refl))
-
-same_ok : {s t : Schedule} → ◌≡◌ {A = Result Schedule ScheduleError} (Ok s) (Ok t) → s ≡ t
-same_ok h = cc h
-
-no_error : {s : Schedule} {e : ScheduleError} → ◌≡◌ {A = Result Schedule ScheduleError} (Ok s) (Err e) → ⊥
-no_error h = cc h
-
-not_found : {view : List ℕ} → ◌≡◌ {A = Option (List ℕ)} None (Some view) → ⊥
-not_found h = cc h
 
 not_past : (s : Schedule) → IsWithinMessages (schedule_run s) → IsPastMessages (schedule_run s) → ⊥
 not_past s within past = omega (arith, within, past)

@@ -18,18 +18,19 @@ use Rattle.schedule_text.specs.Reading.{schedule_of}
 use Rattle.schedule_text.specs.Spelling as schedule
 use Rattle.schedule_text.specs.declared.event.ScheduleEvent.TheVariants as line
 use Rattle.schedule_text.specs.declared.schedule.Schedule.{Schedule}
+use Rattle.world_model.specs.Refusals.{IsCutOff}
 use Rattle.world_model.specs.declared.error.WorldError.TheVariants.{BookFull, Clash}
 use Rattle.sync_laws.specs.Facts.{AreFirm}
 use Rattle.replay.specs.Jobs.{CompletesCalls, EndsSo, HasAdmitted, HasCausedAnswers, HasLegalHistories, IsRunText, PrintsWith, clash_line, hashed_by, nothing_hashed}
 use Rattle.replay.specs.Stops.{PassesLimit, RejectsIn}
-use Rattle.replay.proofs.Stops.{passes_whole, rejects_whole}
+use Rattle.replay.proofs.Stops.{passes_whole, rejects_filled, rejects_whole}
 
 -- a schedule without a line that reverts a peer is sound
 pub forward_sound : (s : Schedule) → schedule.IsSchedule s → ((peer changes : ℕ) → line.Revert peer changes ∈ s.events → ⊥) → first_unsound s ≡ None
 forward_sound s of none = unreverted_is_none s of (λ p reverted. none p reverted.0 reverted.1)
 
 -- of each view that a sound schedule names more than half of the members have seals or are never reverted
-firm_lines : (s : Schedule) → schedule.IsSchedule s → first_unsound s ≡ None → AreFirm (lines_of s.form s.view s.events)
+pub firm_lines : (s : Schedule) → schedule.IsSchedule s → first_unsound s ≡ None → AreFirm (lines_of s.form s.view s.events)
 firm_lines s of sound view named = majority_firm s view of (none_is_sound s sound) (named_in s view named)
 
 -- a sound schedule of whose strings no two clash has legal histories, its answers have causes, and if nothing
@@ -62,11 +63,14 @@ module _ (first now : Account) (s : Schedule) (sound : first_unsound s ≡ None)
       by None read = (kept, new, has.1, has.3, is, tt)
       by (Some bytes) read = (kept, new, has.1, has.3, is, (s, read, sound, has, rejects))
 
-  pub book_ends : (text : List ℕ) → RejectsIn s first (λ strings mid. HasFilled strings mid now) → text ≡ codes "limit book 1073741824" ++ 10 ∷ [] → EndsSo first now s Status.Limit text
-  book_ends text rejects is source read = by source read
+  pub book_ends : (n : ℕ) (text : List ℕ) → RejectsIn s first (λ strings mid. IsCutOff strings mid now (BookFull n)) → text ≡ codes "limit book 1073741824" ++ 10 ∷ [] → EndsSo first now s Status.Limit text
+  book_ends n text stops is source read = by source read
     where
       has : HasFilled (hashed_by s) first now
-      has = rejects_whole s first now (BookFull 0) rejects
+      has = let whole = rejects_whole s first now (BookFull n) stops in whole.0
+
+      rejects : RejectsIn s first (λ strings mid. HasFilled strings mid now)
+      rejects = rejects_filled s first now n stops
 
       by : (source : Option (List ℕ)) → IfSome source (λ bytes. schedule_of bytes ≡ Ok s) → PrintsWith first now source Status.Limit text
       by None read = inr (inr (has.2, tt, is))
@@ -77,10 +81,10 @@ module _ (first now : Account) (s : Schedule) (sound : first_unsound s ≡ None)
   limit_ends text passes is (Some bytes) read = inr (inl ((s, read, sound, passes_whole s first passes, passes), is))
 
   -- the same of the endings that are made with these lines
-  pub book_ending : {E : Type 0} (r : Result Ending E) (line : List ℕ) → line ≡ codes "limit book 1073741824" ++ 10 ∷ [] → IfOk r (λ e. (e.status ≡ Status.Limit) × (string_bytes e.text ≡ line)) → RejectsIn s first (λ strings mid. HasFilled strings mid now)
+  pub book_ending : {E : Type 0} (r : Result Ending E) (line : List ℕ) → line ≡ codes "limit book 1073741824" ++ 10 ∷ [] → IfOk r (λ e. (e.status ≡ Status.Limit) × (string_bytes e.text ≡ line)) → (n : ℕ) → RejectsIn s first (λ strings mid. IsCutOff strings mid now (BookFull n))
       → IfOk r (λ e. EndsSo first now s e.status (string_bytes e.text))
-  book_ending (Ok e) line is made has = subst (λ status. EndsSo first now s status (string_bytes e.text)) (sym made.0) (book_ends (string_bytes e.text) has (made.1 ∙ is))
-  book_ending (Err e) line is made has = tt
+  book_ending (Ok e) line is made n stops = subst (λ status. EndsSo first now s status (string_bytes e.text)) (sym made.0) (book_ends n (string_bytes e.text) stops (made.1 ∙ is))
+  book_ending (Err e) line is made n stops = tt
 
   pub limit_ending : {E : Type 0} (r : Result Ending E) (line : List ℕ) → line ≡ codes "limit messages 500000" ++ 10 ∷ [] → IfOk r (λ e. (e.status ≡ Status.Limit) × (string_bytes e.text ≡ line)) → PassesLimit s first
       → IfOk r (λ e. EndsSo first now s e.status (string_bytes e.text))

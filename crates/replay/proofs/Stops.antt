@@ -1,21 +1,20 @@
 -- The lines of a schedule, one after another, and what a run that ended in one of them says of the whole.
-use Rattle.std.proofs.Common.{◌≡◌, ◌≤◌, ◌+◌, ℕ, zero, suc, Some, List, [], ◌∷◌, ◌++◌, length, slice_get, take, refl, sym, ap, subst, ◌∙◌, inl, inr, arith, append-nil}
+use Rattle.std.proofs.Common.{◌≡◌, ◌≤◌, ◌+◌, ℕ, zero, suc, Some, List, [], ◌∷◌, ◌++◌, length, slice_get, take, refl, sym, ap, subst, ◌∙◌, inl, inr, arith, append-nil, add-one}
 use Rattle.std.specs.Prelude.{IfErr, drop, Result}
 use Rattle.std.specs.Result.{IsErrAnd}
 use Rattle.std.proofs.lemmas.List.{length-replicate}
 use Rattle.std.proofs.lemmas.Option.{same_Some, none-some}
 use Rattle.world_model.proofs.HeldStores.{hashed_all}
-use Rattle.world_model.specs.HeldStores.{Account, HasHashed, StartsWith}
+use Rattle.world_model.specs.HeldStores.{Account, HasFilled, HasHashed, StartsWith}
 use Rattle.schedule_text.specs.declared.event.ScheduleEvent.{ScheduleEvent}
 use Rattle.schedule_text.specs.declared.schedule.Schedule.{Schedule}
 use Rattle.world_model.proofs.Events.{drop_one}
-use Rattle.world_model.proofs.Numbers.{succ}
 use Rattle.world_model.proofs.Reached.{cut_off_after, cut_off_further, errs}
 use Rattle.world_model.specs.Refusals.{IsCutOff}
 use Rattle.world_model.specs.Worlds.{MayRefuse}
 use Rattle.world_model.specs.declared.error.WorldError.{WorldError}
 use Rattle.world_model.specs.declared.error.WorldError.TheVariants.{Clash, BookFull, MessageLimit, Memory}
-use Rattle.world_model.proofs.WorldSpec.{applied_front, IsFurther, applied_same, peers_in, run_grows}
+use Rattle.world_model.proofs.WorldSpec.{applied_front, IsFurther, applied_same, peers_in, run_grows, run_to_last}
 use Rattle.world_model.specs.WorldSpec.{applied, run_from, IsPastMessages, IsWithinMessages, Run, in_front, unhashed, opening_run}
 use Rattle.replay.specs.Jobs.{hashed_by}
 use Rattle.replay.specs.Stops.{CameTo, PassesLimit, RejectsIn, StopsIn, hashed_in, run_after}
@@ -24,7 +23,7 @@ use Rattle.replay.specs.Worlds.{schedule_run}
 -- ---- the first lines of a schedule, and one more
 
 take_one : (all : List ScheduleEvent) (place : ℕ) (event : ScheduleEvent) → slice_get all place ≡ Some event → take (place + 1) all ≡ take place all ++ event ∷ []
-take_one all place event here = ap (λ k. take k all) (succ place) ∙ at all place event here
+take_one all place event here = ap (λ k. take k all) (add-one place) ∙ at all place event here
   where
     at : (all : List ScheduleEvent) (place : ℕ) (event : ScheduleEvent) → slice_get all place ≡ Some event → take (suc place) all ≡ take place all ++ event ∷ []
     at [] place event here = absurd (none-some event here)
@@ -45,10 +44,6 @@ parted (e ∷ es) (suc place) = ap (λ l. e ∷ l) (parted es place)
 
 split_at : (all : List ScheduleEvent) (place : ℕ) (event : ScheduleEvent) → slice_get all place ≡ Some event → all ≡ take place all ++ event ∷ drop (place + 1) all
 split_at all place event here = parted all place ∙ ap (λ l. take place all ++ l) (drop_one all place event here)
-
-pub run_last : (lines : List ScheduleEvent) (line : ScheduleEvent) (w : Run) → run_from (lines ++ line ∷ []) w ≡ applied line (run_from lines w)
-run_last [] line w = refl
-run_last (e ∷ lines) line w = run_last lines line (applied e w)
 
 run_parts : (lines : List ScheduleEvent) (line : ScheduleEvent) (rest : List ScheduleEvent) (w : Run) → run_from (lines ++ line ∷ rest) w ≡ run_from rest (applied line (run_from lines w))
 run_parts [] line rest w = refl
@@ -75,7 +70,7 @@ module _ (s : Schedule) where
 
   pub passes_whole : (first : Account) → PassesLimit s first → IsPastMessages (schedule_run s)
   passes_whole first p =
-      let past : IsPastMessages (applied p.line (run_after s p.done)) = subst IsPastMessages (run_last p.done p.line (opening_run s.form s.peers s.view)) p.past in
+      let past : IsPastMessages (applied p.line (run_after s p.done)) = subst IsPastMessages (run_to_last p.done p.line (opening_run s.form s.peers s.view)) p.past in
       omega (arith, past, (goes_on p.done p.line p.came.rest p.came.are).sent)
 
   -- a string of a line that was rejected is one of the run
@@ -84,6 +79,11 @@ module _ (s : Schedule) where
   rejects_whole first now e (inr (done, line, mid, came, cut)) =
       cut_off_further ((run_after s done).hashed ++ hashed_in s done line) (hashed_by s) first now e (line_strings done line came.rest came.are)
       (cut_off_after (run_after s done).hashed (hashed_in s done line) first mid now e came.has cut)
+
+  -- a string that did not fit, whatever number the error has
+  pub rejects_filled : (first now : Account) (n : ℕ) → RejectsIn s first (λ strings mid. IsCutOff strings mid now (BookFull n)) → RejectsIn s first (λ strings mid. HasFilled strings mid now)
+  rejects_filled first now n (inl cut) = inl cut.0
+  rejects_filled first now n (inr (done, line, mid, came, cut)) = inr (done, line, mid, came, cut.0)
 
 -- ---- a world that applies the lines one after another
 
@@ -107,7 +107,7 @@ module _ (s : Schedule) (place : ℕ) (first : Account) (now : Run) (mid : Accou
 
   -- the run after the line, with the strings before it in front
   line_after : in_front (run_after s done).hashed (applied event (unhashed (run_after s done))) ≡ run_after s (done ++ event ∷ [])
-  line_after = sym (run_last done event (opening_run s.form s.peers s.view) ∙ after_strings event (run_after s done))
+  line_after = sym (run_to_last done event (opening_run s.form s.peers s.view) ∙ after_strings event (run_after s done))
 
   next_after : run_after s (done ++ event ∷ []) ≡ run_after s (take (place + 1) s.events)
   next_after = ap (λ (lines : List ScheduleEvent). run_after s lines) (sym (take_one s.events place event here))

@@ -73,13 +73,13 @@ one_text run first second a b =
 
 -- ---- a replay of the text of a schedule
 
-same_ok : {s t : Schedule} → ◌≡◌ {A = Result Schedule ScheduleError} (Ok s) (Ok t) → s ≡ t
+pub same_ok : {s t : Schedule} → ◌≡◌ {A = Result Schedule ScheduleError} (Ok s) (Ok t) → s ≡ t
 same_ok h = cc h
 
-no_error : {s : Schedule} {e : ScheduleError} → ◌≡◌ {A = Result Schedule ScheduleError} (Ok s) (Err e) → ⊥
+pub no_error : {s : Schedule} {e : ScheduleError} → ◌≡◌ {A = Result Schedule ScheduleError} (Ok s) (Err e) → ⊥
 no_error h = cc h
 
-not_found : {view : List ℕ} → ◌≡◌ {A = Option (List ℕ)} None (Some view) → ⊥
+pub not_found : {view : List ℕ} → ◌≡◌ {A = Option (List ℕ)} None (Some view) → ⊥
 not_found h = cc h
 
 read_same : (s t : Schedule) → IsSchedule s → schedule_of (schedule_text s) ≡ Ok t → t ≡ s

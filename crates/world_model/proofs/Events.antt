@@ -1,5 +1,5 @@
 -- The events of a schedule, applied one after another.
-use Rattle.std.proofs.Common.{◌≡◌, ◌≤◌, ◌+◌, ℕ, zero, suc, Some, List, [], ◌∷◌, ◌++◌, length, slice_get, refl, ap, subst, ◌∙◌, sym, arith}
+use Rattle.std.proofs.Common.{◌≡◌, ◌≤◌, ◌+◌, ℕ, zero, suc, Some, List, [], ◌∷◌, ◌++◌, length, slice_get, refl, ap, subst, ◌∙◌, sym, arith, add-one}
 use Rattle.std.specs.Prelude.{drop}
 use Rattle.std.proofs.lemmas.List.{length-replicate}
 use Rattle.std.proofs.lemmas.Option.{same_Some, none-some}
@@ -14,7 +14,6 @@ use Rattle.world_spec.proofs.Growth.{IsFurther, further_front, peers_in, applied
 use Rattle.world_spec.specs.Lines.{applied, run_from, run_of_schedule}
 use Rattle.world_spec.specs.Messages.{sent_in}
 use Rattle.world_spec.specs.Runs.{Run, in_front, unhashed, opening_run}
-use Rattle.world_model.proofs.Numbers.{succ}
 
 -- some events have been applied, in which the hasher took these strings, and the rest lead from here
 -- to the run of the schedule
@@ -36,7 +35,7 @@ running_first form peers view all first now mid is has = record {
 }
 
 pub drop_one : (all : List ScheduleEvent) (place : ℕ) (event : ScheduleEvent) → slice_get all place ≡ Some event → drop place all ≡ event ∷ drop (place + 1) all
-drop_one all place event here = at all place event here ∙ ap (λ k. event ∷ drop k all) (sym (succ place)) where
+drop_one all place event here = at all place event here ∙ ap (λ k. event ∷ drop k all) (sym (add-one place)) where
   at : (all : List ScheduleEvent) (place : ℕ) (event : ScheduleEvent) → slice_get all place ≡ Some event → drop place all ≡ event ∷ drop (suc place) all
   at [] place event here = absurd (none-some event here)
   at (e ∷ es) zero event here = ap (λ x. x ∷ es) (same_Some e event here)

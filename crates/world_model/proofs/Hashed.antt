@@ -1,9 +1,9 @@
 -- A hasher that was given one string.
 use Rattle.std.proofs.Common.{◌≡◌, ◌≤◌, ℕ, List, [], ◌∷◌, Option, refl, sym, subst}
 use Rattle.ens_base.specs.Causes.{Rose}
-use Rattle.ens_hashing.specs.Hashing.{Book, ExceedsTold, IsClash, IsKept, Stays, Takes}
+use Rattle.ens_hashing.specs.Hashing.{Book, ExceedsTold, IsClash, IsKept, IsTotal, Stays, Takes}
 use Rattle.world_spec.proofs.HeldStores.{hashed_more, hashed_none}
-use Rattle.world_spec.specs.HeldStores.{Account, HasHashed, HasClashed, HasFilled, HasRejected}
+use Rattle.world_spec.specs.HeldStores.{Account, HasHashed, HasClashed, HasFilledAt, HasRejected}
 
 -- it took the string
 pub took_one : (x : List ℕ) (first now : Account) → Takes x first.kept now.kept → first.clashes ≤ now.clashes → first.fulls ≤ now.fulls → HasHashed (x ∷ []) first now
@@ -19,5 +19,6 @@ clashed_one x kept new first now same stays clash is_kept rose =
     (subst (λ (y : List ℕ). HasRejected (x ∷ []) first y now) (sym same) (rejected_one x first now stays), clash, subst (λ (b : Option Book). IsKept b kept) (sym stays) is_kept, rose)
 
 -- since it did not fit
-pub filled_one : (x : List ℕ) (first now : Account) → Stays first.kept now.kept → Rose first.fulls now.fulls → ExceedsTold x first.kept → HasFilled (x ∷ []) first now
-filled_one x first now stays rose exceeds = (x, rejected_one x first now stays, rose, subst (λ (b : Option Book). ExceedsTold x b) (sym stays) exceeds)
+pub filled_one : (x : List ℕ) (n : ℕ) (first now : Account) → Stays first.kept now.kept → Rose first.fulls now.fulls → ExceedsTold x first.kept → IsTotal n first.kept → HasFilledAt n (x ∷ []) first now
+filled_one x n first now stays rose exceeds full =
+    ((x, rejected_one x first now stays, rose, subst (λ (b : Option Book). ExceedsTold x b) (sym stays) exceeds), subst (λ (b : Option Book). IsTotal n b) (sym stays) full)

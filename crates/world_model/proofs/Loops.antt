@@ -15,7 +15,7 @@ use Rattle.world_model.specs.Worlds.{run_of, Begins}
 use Rattle.world_model.specs.declared.world.World.{World}
 use Rattle.world_model.proofs.Begins.{begins_same, begins_later}
 
-minus_zero : (n : ℕ) → n - 0 ≡ n
+pub minus_zero : (n : ℕ) → n - 0 ≡ n
 minus_zero n = omega arith
 
 -- some ticks have been taken, in which the hasher took these strings, and the rest lead from here to
@@ -55,7 +55,7 @@ module _ (peer ticks i : ℕ) (first now : World) (before after : Account) (belo
   ticking_longer = subst (λ (w : Run). IsFurther (in_front old.strings next_tick) w) ticks_left
       (further_front old.strings next_tick (ticked peer (ticks - (i + 1)) next_tick) (ticked_grows peer (ticks - (i + 1)) next_tick))
 
-none_left : (n i : ℕ) → n ≤ i → n - i ≡ 0
+pub none_left : (n i : ℕ) → n ≤ i → n - i ≡ 0
 none_left n i le = omega (arith, le)
 
 pub ticking_last : (peer ticks i : ℕ) (first now : World) (before after : Account) → ticks ≤ i → (old : Ticking peer ticks i first now before after) → in_front old.strings (run_of now) ≡ ticked peer ticks (run_of first)

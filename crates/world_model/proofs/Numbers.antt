@@ -1,9 +1,6 @@
 -- Numbers that count by one.
 use Rattle.std.proofs.Common.{◌≡◌, ◌+◌, ℕ, suc, arith}
 
-pub succ : (n : ℕ) → n + 1 ≡ suc n
-succ n = omega arith
-
 -- a number above a base, counted from the next base
 pub shifted : (m q base : ℕ) → m ≡ suc q + base → m ≡ q + (base + 1)
 shifted m q base is = omega (arith, is)

@@ -22,14 +22,14 @@ pub cut_off_further : (xs ys : List (List ℕ)) (first now : Account) (e : World
 cut_off_further xs ys first now MessageLimit starts cut = absurd cut
 cut_off_further xs ys first now Memory starts cut = tt
 cut_off_further xs ys first now (Clash kept new) starts cut = (rejected_further xs ys first new now starts cut.0, cut.1, cut.2, cut.3)
-cut_off_further xs ys first now (BookFull bytes) starts cut = (cut.0, rejected_further xs ys first cut.0 now starts cut.1, cut.2, cut.3)
+cut_off_further xs ys first now (BookFull bytes) starts cut = (let filled = cut.0 in (filled.0, rejected_further xs ys first filled.0 now starts filled.1, filled.2, filled.3), cut.1)
 
 -- the same after other strings that were taken
 pub cut_off_after : (xs ys : List (List ℕ)) (first mid now : Account) (e : WorldError) → HasHashed xs first mid → IsCutOff ys mid now e → IsCutOff (xs ++ ys) first now e
 cut_off_after xs ys first mid now MessageLimit has cut = absurd cut
 cut_off_after xs ys first mid now Memory has cut = tt
 cut_off_after xs ys first mid now (Clash kept new) has cut = (rejected_after xs ys first mid new now has cut.0, cut.1, cut.2, rose_since first.clashes mid.clashes now.clashes has.clashes cut.3)
-cut_off_after xs ys first mid now (BookFull bytes) has cut = (cut.0, rejected_after xs ys first mid cut.0 now has cut.1, rose_since first.fulls mid.fulls now.fulls has.fulls cut.2, cut.3)
+cut_off_after xs ys first mid now (BookFull bytes) has cut = (let filled = cut.0 in (filled.0, rejected_after xs ys first mid filled.0 now has filled.1, rose_since first.fulls mid.fulls now.fulls has.fulls filled.2, filled.3), cut.1)
 
 -- an error that was passed on
 pub errs : {T : Type 0} (P : WorldError → Type 0) (r : Result T WorldError) (G : WorldError → Type 0) (e : WorldError) → IsErrAnd r G → ((d : WorldError) → G d → d ≡ e) → P e → IfErr r P

@@ -1,5 +1,5 @@
 -- Peers start one after another.
-use Rattle.std.proofs.Common.{◌≡◌, ◌+◌, ℕ, zero, suc, Some, List, [], ◌∷◌, ◌++◌, length, map, replicate, slice_get, refl, ap, subst, ◌∙◌, sym}
+use Rattle.std.proofs.Common.{◌≡◌, ◌+◌, ℕ, zero, suc, Some, List, [], ◌∷◌, ◌++◌, length, map, replicate, slice_get, refl, ap, subst, ◌∙◌, sym, add-one}
 use Rattle.std.proofs.lemmas.List.{map-append, length-append}
 use Rattle.std.proofs.lemmas.Option.{same_Some, none-some}
 use Rattle.world_spec.proofs.HeldStores.{hashed_none, hashed_all}
@@ -8,7 +8,7 @@ use Rattle.peer_state.specs.declared.state.Mode.{Mode}
 use Rattle.world_spec.specs.Nodes.{Down, opening_node, opening_strings}
 use Rattle.world_spec.specs.Runs.{repeated}
 use Rattle.world_spec.specs.Steps.{StartsAs}
-use Rattle.world_model.proofs.Numbers.{succ, shifted, shifted_back}
+use Rattle.world_model.proofs.Numbers.{shifted, shifted_back}
 use Rattle.world_model.specs.Peers.{node_of, AreNumbered}
 use Rattle.world_model.specs.declared.peer.WorldPeer.{WorldPeer}
 
@@ -40,8 +40,8 @@ numbered_from base (y ∷ ys) p me numbered (suc q) x here =
 pub one_started : (mode : Mode) (view : List ℕ) (n : ℕ) (peers : List WorldPeer) (p : WorldPeer) (first mid now : Account) → Started mode view n peers first mid → p.me ≡ n + 1 → StartsAs mid now mode view (Down empty_stores) (node_of p)
     → Started mode view (n + 1) (peers ++ p ∷ []) first now
 one_started mode view n peers p first mid now old me starts = record {
-  nodes = map-append node_of peers (p ∷ []) ∙ (rw old.nodes (rw starts.is (replicate_more n (opening_node mode view) ∙ ap (λ k. replicate k (opening_node mode view)) (sym (succ n)))));
+  nodes = map-append node_of peers (p ∷ []) ∙ (rw old.nodes (rw starts.is (replicate_more n (opening_node mode view) ∙ ap (λ k. replicate k (opening_node mode view)) (sym (add-one n)))));
   numbered = numbered_from 1 peers p (rw old.count me) old.numbered;
   count = length-append peers (p ∷ []) ∙ rw old.count refl;
-  has = subst (λ k. HasHashed (repeated k (opening_strings mode view)) first now) (sym (succ n)) (hashed_all (repeated n (opening_strings mode view)) (opening_strings mode view) first mid now old.has starts.has);
+  has = subst (λ k. HasHashed (repeated k (opening_strings mode view)) first now) (sym (add-one n)) (hashed_all (repeated n (opening_strings mode view)) (opening_strings mode view) first mid now old.has starts.has);
 }

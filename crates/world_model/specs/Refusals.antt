@@ -1,6 +1,6 @@
 -- How the error of a peer's step ends the run of a world.
 use Rattle.std.specs.Prelude.{ℕ, List, Option, Some, None}
-use Rattle.world_spec.specs.HeldStores.{Account, HasClashed, HasFilled}
+use Rattle.world_spec.specs.HeldStores.{Account, HasClashed, HasFilledAt}
 use Rattle.network.specs.declared.error.SendError.{SendError}
 use Rattle.network.specs.declared.error.SendError.TheVariants as sends
 use Rattle.step_plans.specs.declared.error.PeerError.{PeerError}
@@ -23,7 +23,7 @@ world_error (errors.BookFull bytes) = Some (worlds.BookFull bytes)
 abbrev pub IsCutOff : List (List ℕ) → Account → Account → WorldError → Type 0
 IsCutOff strings first now worlds.Memory = Unit {0}
 IsCutOff strings first now (worlds.Clash kept new) = HasClashed strings first kept new now
-IsCutOff strings first now (worlds.BookFull bytes) = HasFilled strings first now
+IsCutOff strings first now (worlds.BookFull bytes) = HasFilledAt bytes strings first now
 IsCutOff strings first now worlds.MessageLimit = ⊥
 
 -- the world's error for a message that was not sent

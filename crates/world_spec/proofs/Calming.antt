@@ -146,7 +146,7 @@ module _ (test : Frame → Bool) (k : ℕ) where
   run_quiet [] w quiet = quiet
   run_quiet (event ∷ more) w quiet = run_quiet more (applied event w) (effect_quiet event w quiet)
 
-run_to_last : (events : List ScheduleEvent) (last : ScheduleEvent) (w : Run) → run_from (events ++ last ∷ []) w ≡ applied last (run_from events w)
+pub run_to_last : (events : List ScheduleEvent) (last : ScheduleEvent) (w : Run) → run_from (events ++ last ∷ []) w ≡ applied last (run_from events w)
 run_to_last [] last w = refl
 run_to_last (event ∷ more) last w = run_to_last more last (applied event w)
 

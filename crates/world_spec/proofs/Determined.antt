@@ -21,7 +21,7 @@ came_to : (first now : Account) (k : Ended State) (e : Ending State) (t : HeldSt
     → taken_by e (held_with t strings) notes ≡ outcome node out notes strings → HasHashed strings first now → ComesTo first now (taken_of k) node out notes
 came_to first now k e t strings node out notes is taken has = rw is (rw taken (record { is = refl; has = has }))
 
-taken_strings : (e : Ending State) (h : Held) (notes : List Note) → (taken_by e h notes).hashed ≡ h.hashed
+pub taken_strings : (e : Ending State) (h : Held) (notes : List Note) → (taken_by e h notes).hashed ≡ h.hashed
 taken_strings (Finished x out) h notes = refl
 taken_strings (Stopped error) h notes = refl
 

@@ -99,7 +99,7 @@ after_waits s (Write digest bytes) = refl
 after_waits s Top = refl
 after_waits s (SetTop digest) = refl
 
-none_refused : (s : Nodes) (call : NodeCall) → s.faults.pending ≡ None → refusal s call ≡ None
+pub none_refused : (s : Nodes) (call : NodeCall) → s.faults.pending ≡ None → refusal s call ≡ None
 none_refused s (Read digest) none = refl
 none_refused s (Write digest bytes) none = refl
 none_refused s Top none = refl

@@ -86,14 +86,14 @@ changed_at_hashed (Some node) peer change w = refl
 pub changed_hashed : (peer : ℕ) (change : Node → Node) (w : Run) → (changed peer change w).hashed ≡ w.hashed
 changed_hashed peer change w = changed_at_hashed (slice_get w.nodes (place_of peer)) peer change w
 
-changed_at_grows : (node : Option Node) (peer : ℕ) (change : Node → Node) (w : Run) → IsFurther w (changed_at node peer change w)
+pub changed_at_grows : (node : Option Node) (peer : ℕ) (change : Node → Node) (w : Run) → IsFurther w (changed_at node peer change w)
 changed_at_grows None peer change w = further_same w
 changed_at_grows (Some node) peer change w = record { sent = omega arith; hashed = starts_here w.hashed }
 
 changed_grows : (peer : ℕ) (change : Node → Node) (w : Run) → IsFurther w (changed peer change w)
 changed_grows peer change w = changed_at_grows (slice_get w.nodes (place_of peer)) peer change w
 
-start_grows : (peer : ℕ) (w : Run) → IsFurther w (with_start peer w)
+pub start_grows : (peer : ℕ) (w : Run) → IsFurther w (with_start peer w)
 start_grows peer w =
     let change = changed_grows peer (started (mode_at peer w) w.view) w in
     let strings = start_strings (mode_at peer w) w.view (slice_get w.nodes (place_of peer)) in

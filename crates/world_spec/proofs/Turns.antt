@@ -9,7 +9,7 @@ pub no_tick : (peer : ℕ) (w : Run) → ticked peer 0 w ≡ w
 unfolding ticked
 no_tick peer w = refl
 
-one_more : (n i : ℕ) → i < n → n - i ≡ suc (n - (i + 1))
+pub one_more : (n i : ℕ) → i < n → n - i ≡ suc (n - (i + 1))
 one_more n i below = omega (arith, below)
 
 tick : (peer k : ℕ) (w : Run) → ticked peer (suc k) w ≡ ticked peer k (stepped peer events.Tick w)

@@ -6,9 +6,9 @@ use Rattle.held_stores.specs.Held.{HasTaken}
 use Rattle.replay.proofs.WorldModel.{errs}
 use Rattle.ensemble_root.specs.Ends.{IsStopped}
 use Rattle.ensemble_root.specs.Hashed.{hashed_by}
-use Rattle.ensemble_root.proofs.Lists.{some_at}
 use Rattle.ensemble_root.proofs.Steps.{doing_last, doing_next, opening_stops, stops}
 use Rattle.ensemble_root.proofs.run.run_lines.Goals as goal
+use Rattle.call_refinement.proofs.Schedules.{node_at}
 
 pub returns-in_err-run-clause-stops : goal.returns-in_err-run-clause-stops
 returns-in_err-run-clause-stops g c = errs (IsStopped c.args.script.now _ _) c.from_residual-in_err-run.result _ c.in_err-run.field-0.0 c.from_residual-in_err-run.ensures.1 (λ d e. e) (opening_stops c.args.script.now _ _ c.in_err-run.field-0.0 c.in_err-run.ensures.error)
@@ -17,7 +17,7 @@ pub returns-in_err-apply-clause-stops : goal.returns-in_err-apply-clause-stops
 returns-in_err-apply-clause-stops g c =
     let within : c.loop-place.place < length c.args.script.now.events = grind (arith, common_steps, c.as_slice-place-end.ensures) in
     let few : c.loop-place.place ≤ length c.args.script.now.events = omega (arith, within) in
-    let at = some_at c.args.script.now.events c.loop-place.place within in
+    let at = node_at c.args.script.now.events c.loop-place.place within in
     let old = c.loop-place.invariant in
     errs (IsStopped c.args.script.now _ _) c.from_residual-in_err-apply.result _ c.in_err-apply.field-0.0 c.from_residual-in_err-apply.ensures.1 (λ d e. e)
     (stops c.args.script.now c.loop-place.place _ c.loop-place.run c.apply.new.self _ _ at.0 at.1 few old (Unit {0}) c.in_err-apply.field-0.0 (c.in_err-apply.ensures.goes _ at.0 at.1 old.stands))
@@ -26,7 +26,7 @@ pub loop-place-preserved : goal.loop-place-preserved
 loop-place-preserved g c =
     let within : c.loop-place.place < length c.args.script.now.events = grind (arith, common_steps, c.as_slice-place-end.ensures) in
     let few : c.loop-place.place ≤ length c.args.script.now.events = omega (arith, within) in
-    let at = some_at c.args.script.now.events c.loop-place.place within in
+    let at = node_at c.args.script.now.events c.loop-place.place within in
     let old = c.loop-place.invariant in
     doing_next c.args.script.now c.loop-place.place _ c.loop-place.run c.apply.new.self _ _ at.0 at.1 few old (c.in_ok-apply.ensures.goes _ at.0 at.1 old.stands)
 

@@ -14,7 +14,7 @@ pub returns-in_ok-clash_text-in-Err-Clash-clause-ends : goal.returns-in_ok-clash
 returns-in_ok-clash_text-in-Err-Clash-clause-ends g c = clash_ends _ _ c.args.schedule.now c.requires.sound _ _ _ (rw c.in-Err-Clash.field-0-is at c.in-Err-Clash.ensures.stops) c.in_ok-clash_text-in-Err-Clash.ensures
 
 pub returns-in-Err-BookFull-clause-ends : goal.returns-in-Err-BookFull-clause-ends
-returns-in-Err-BookFull-clause-ends g c = book_ending _ _ c.args.schedule.now c.requires.sound c.new.result _ refl c.new.ensures (rw c.in-Err-BookFull.field-0-is at c.in-Err-BookFull.ensures.stops)
+returns-in-Err-BookFull-clause-ends g c = book_ending _ _ c.args.schedule.now c.requires.sound c.new.result _ refl c.new.ensures _ (rw c.in-Err-BookFull.field-0-is at c.in-Err-BookFull.ensures.stops)
 
 pub returns-in-Err-MessageLimit-clause-ends : goal.returns-in-Err-MessageLimit-clause-ends
 returns-in-Err-MessageLimit-clause-ends g c = limit_ending _ _ c.args.schedule.now c.requires.sound c.new-in-Err-MessageLimit.result _ refl c.new-in-Err-MessageLimit.ensures (rw c.in-Err-MessageLimit.field-0-is at c.in-Err-MessageLimit.ensures.stops)

@@ -1,9 +1,9 @@
 use Rattle.std.proofs.Common.{arith, ◌≡◌, ◌<◌, ◌≤◌, ◌∙◌, Some, length, slice_get, ap}
 use Rattle.std.proofs.lemmas.Grind.{common_steps}
 use Rattle.replay.specs.WorldModel.{run_of}
-use Rattle.ensemble_root.proofs.Lists.{some_at}
 use Rattle.ensemble_root.proofs.Steps.{after_lines, goes_err, lines_next, lines_refused}
 use Rattle.ensemble_root.proofs.worlds.RootWorlds.open_told.Goals as goal
+use Rattle.call_refinement.proofs.Schedules.{node_at}
 
 pub returns-in_err-open_by-clause-goes : goal.returns-in_err-open_by-clause-goes
 returns-in_err-open_by-clause-goes g c = λ r h.
@@ -11,7 +11,7 @@ returns-in_err-open_by-clause-goes g c = λ r h.
     let within : c.loop-place.place < length printed = grind (arith, common_steps) in
     let low : c.args.before ≤ c.loop-place.place = grind (arith, common_steps) in
     let high : c.loop-place.place ≤ length printed = omega (arith, within) in
-    let at = some_at printed c.loop-place.place within in
+    let at = node_at printed c.loop-place.place within in
     let old = c.loop-place.invariant.goes r h in
     let here : slice_get (run_of c.loop-place.self.root).printed c.loop-place.place ≡ Some at.0 = ap (λ w. slice_get (run_of w).printed c.loop-place.place) c.loop-place.invariant.root ∙ at.1 in
     goes_err c.args.script.now _ (Unit {0}) _ _ _ _ c.from_residual.result _ c.in_err-open_by.field-0.0 c.from_residual.ensures.1 (λ d e. e)
@@ -23,7 +23,7 @@ loop-place-preserved g c =
     let within : c.loop-place.place < length printed = grind (arith, common_steps) in
     let low : c.args.before ≤ c.loop-place.place = grind (arith, common_steps) in
     let high : c.loop-place.place ≤ length printed = omega (arith, within) in
-    let at = some_at printed c.loop-place.place within in
+    let at = node_at printed c.loop-place.place within in
     let here : slice_get (run_of c.loop-place.self.root).printed c.loop-place.place ≡ Some at.0 = ap (λ w. slice_get (run_of w).printed c.loop-place.place) c.loop-place.invariant.root ∙ at.1 in
     record {
       root = c.in_ok-open_by.ensures.root ∙ c.loop-place.invariant.root;
