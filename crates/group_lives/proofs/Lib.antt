@@ -1,0 +1,7 @@
+pub mod Places
+pub mod Events
+pub mod Outputs
+pub mod Acting
+pub mod Joining
+pub mod Serving
+pub mod Lone

@@ -1,0 +1,5 @@
+pub mod Acts
+pub mod Lives
+pub mod Joined
+pub mod Served
+pub mod Witness

@@ -1,0 +1,47 @@
+-- What `serve` promises of a peer, over disks that tell their bytes, is a life that may be joined with others.
+use Rattle.std.specs.Prelude.{◌≡◌, ℕ, List, Option, None, Some}
+use Rattle.disk_log.specs.Records.{entries_of}
+use Rattle.disk_runs.specs.Memory.{StandsFor}
+use Rattle.disk_stores.specs.NodeMaps.{nodes_of}
+use Rattle.ens_base.specs.Limits.{IsBytes}
+use Rattle.ens_base.specs.Lists.{◌∈◌}
+use Rattle.ens_base.specs.declared.peer_words.PeerWords.{PeerWords}
+use Rattle.fact_store.specs.Keeping.{file_fact}
+use Rattle.peer_fact.specs.declared.saved.SavedFact.{SavedFact}
+use Rattle.peer_lives.specs.Moments.{Found}
+use Rattle.peer_serve.specs.DiskPeers.{disks_do, disks_refuse}
+use Rattle.peer_serve.specs.declared.disks.Disks.{Disks}
+use Rattle.served_lives.specs.Served.{HasLived}
+use Rattle.world_stores.specs.Facts.{kept_of}
+use Rattle.group_lives.specs.Acts.{Life}
+use Rattle.group_lives.specs.Lives as group
+use Rattle.group_lives.specs.Joined.{fact_on_disk}
+
+-- the disk is there and tells these bytes
+abbrev pub Tells : {D : Type 0} → (D → Option (List ℕ)) → Option D → List ℕ → Type 0
+Tells seen None file = ⊥
+Tells seen (Some disk) file = seen disk ≡ Some file
+
+-- what looks gave is bytes
+abbrev pub AreBytes : List (Option (List ℕ)) → Type 0
+AreBytes looks = (bytes : List ℕ) → Some bytes ∈ looks → IsBytes bytes
+
+-- this fact, and what these files of nodes and of objects hold
+abbrev pub found_in : Option SavedFact → List ℕ → List ℕ → Found
+found_in fact nodes objects = record { fact = fact; nodes = (nodes_of nodes).entries; top = (nodes_of nodes).top; objects = entries_of objects }
+
+module _ {D L : Type 0} (seen : D → Option (List ℕ)) (may_leave : D → List ℕ → Type 0) (moment : D → ℕ) (left_since : D → ℕ → List ℕ → Type 0) (faults : D → ℕ)
+    (sent : L → Option (List (ℕ × List ℕ))) (given : L → Option (List (Option (List ℕ)))) where
+  -- The process found on its disks the fact that the file of facts holds, or none if it holds none, and what the
+  -- other two files hold; and it left the stores that it had after its last step.
+  pub record MayBeJoined (w : PeerWords) (disks disks_after : Disks D) (link link_after : L) (served : HasLived seen may_leave moment left_since faults sent given w disks disks_after link link_after) (facts nodes objects : List ℕ) : Type 0 where
+    pub fact : Option SavedFact
+    pub is : file_fact facts ≡ kept_of fact
+    pub lived : group.HasLived (disks_do seen may_leave moment left_since faults) (disks_refuse seen may_leave moment left_since faults) (StandsFor seen) fact_on_disk w.view w.me (record { found = found_in fact nodes objects; deeds = served.life.deeds })
+    pub left : lived.left ≡ served.life.last.stores
+
+-- whatever the files hold, and whatever the link gave
+abbrev pub ServedLivesJoin : {D L : Type 0} → (D → Option (List ℕ)) → (D → List ℕ → Type 0) → (D → ℕ) → (D → ℕ → List ℕ → Type 0) → (D → ℕ) → (L → Option (List (ℕ × List ℕ))) → (L → Option (List (Option (List ℕ)))) → Type 0
+ServedLivesJoin {D} {L} seen may_leave moment left_since faults sent given = (w : PeerWords) (disks disks_after : Disks D) (link link_after : L) (served : HasLived seen may_leave moment left_since faults sent given w disks disks_after link link_after) (facts nodes objects : List ℕ)
+    → Tells seen disks.facts facts → Tells seen disks.nodes nodes → Tells seen disks.objects objects → AreBytes served.life.looks
+    → MayBeJoined seen may_leave moment left_since faults sent given w disks disks_after link link_after served facts nodes objects
