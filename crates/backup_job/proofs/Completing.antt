@@ -7,10 +7,10 @@ use Rattle.tree_backup.specs.declared.error.BackupError.{BackupError}
 use Rattle.tree_backup.specs.declared.item.Content.{Content}
 use Rattle.backup_job.specs.Printed.{HasRead, IsCheckable, PrintsCheck}
 
-at_usage : ◌≡◌ {A = Status} Status.Usage Status.Done → ⊥
+pub at_usage : ◌≡◌ {A = Status} Status.Usage Status.Done → ⊥
 at_usage e = cc e
 
-fault_at_usage : ◌≡◌ {A = Status} Status.Usage Status.ReadFault → ⊥
+pub fault_at_usage : ◌≡◌ {A = Status} Status.Usage Status.ReadFault → ⊥
 fault_at_usage e = cc e
 
 pub at_memory : ◌≡◌ {A = Status} Status.Memory Status.Done → ⊥

@@ -55,7 +55,7 @@ same_ends more xs ys same x = (λ m. swapped more ys x (before_same more xs ys s
 
 -- ## Calls of a schedule
 
-call_in_front : (event : ScheduleEvent) (n : ℕ) (xs ys : List Call) → call_at event n (xs ++ ys) ≡ call_at event n xs ++ ys
+pub call_in_front : (event : ScheduleEvent) (n : ℕ) (xs ys : List Call) → call_at event n (xs ++ ys) ≡ call_at event n xs ++ ys
 call_in_front (line.Call peer id key command) n xs ys = refl
 call_in_front _ n xs ys = refl
 

@@ -23,12 +23,12 @@ use Rattle.step_refinement.specs.Roles.{said_of, said_by, said_in_sends}
 
 -- ## Places
 
-set_same : {A : Type 0} (xs : List A) (p : ℕ) (y m : A) → slice_get xs p ≡ Some m → slice_get (slice_set xs p y) p ≡ Some y
+pub set_same : {A : Type 0} (xs : List A) (p : ℕ) (y m : A) → slice_get xs p ≡ Some m → slice_get (slice_set xs p y) p ≡ Some y
 set_same [] p y m is = absurd (none-some m is)
 set_same (x ∷ xs) zero y m is = refl
 set_same (x ∷ xs) (suc p) y m is = set_same xs p y m is
 
-set_other : {A : Type 0} (xs : List A) (p q : ℕ) (y : A) → (p ≡ q → ⊥) → slice_get (slice_set xs p y) q ≡ slice_get xs q
+pub set_other : {A : Type 0} (xs : List A) (p q : ℕ) (y : A) → (p ≡ q → ⊥) → slice_get (slice_set xs p y) q ≡ slice_get xs q
 set_other [] p q y other = refl
 set_other (x ∷ xs) zero zero y other = absurd (other refl)
 set_other (x ∷ xs) zero (suc q) y other = refl
@@ -111,7 +111,7 @@ frame_at P frames n f is hold = subst P (get_or_from_slice_get frames n f f is) 
 
 -- ## Messages from a number on
 
-get_push : (xs : List Frame) (f g : Frame) (n : ℕ) → slice_get (xs ++ f ∷ []) n ≡ Some g → (slice_get xs n ≡ Some g) ⊎ (g ≡ f)
+pub get_push : (xs : List Frame) (f g : Frame) (n : ℕ) → slice_get (xs ++ f ∷ []) n ≡ Some g → (slice_get xs n ≡ Some g) ⊎ (g ≡ f)
 get_push [] f g zero is = inr (sym (same_Some f g is))
 get_push [] f g (suc n) is = absurd (none-some g is)
 get_push (x ∷ xs) f g zero is = inl is

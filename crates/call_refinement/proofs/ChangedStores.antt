@@ -53,6 +53,7 @@ use Rattle.tree_refinement.specs.Trees.{AreAmong, AreFree}
 use Rattle.version_laws.proofs.Maps.{put_here}
 use Rattle.world_spec.specs.Nodes.{Node, Up, Down, taken_by, taken_of, run_over, started, hashed_by_start, over_stores}
 use Rattle.world_spec.specs.Stores.{failing, spoiled, segment_spoiled, inner_spoiled, taken_back}
+use Rattle.world_spec.proofs.Determined.{taken_strings}
 use Rattle.world_stores.specs.Nodes.{top_of, reverted}
 use Rattle.world_stores.specs.declared.fact.HeldFact.{HeldFact}
 use Rattle.call_refinement.proofs.HashedBefore.{behind, run_behind}
@@ -143,11 +144,6 @@ stopped_fits version lines strings hashed s q x stores fits = record {
 }
 
 -- ## A peer that starts
-
--- the strings that a step hashed, however it ended
-pub taken_strings : (e : Ending PeerState) (h : Held) (notes : List Note) → (taken_by e h notes).hashed ≡ h.hashed
-taken_strings (Finished x out) h notes = refl
-taken_strings (Stopped error) h notes = refl
 
 -- the node after a step, whatever was hashed before
 taken_behind : (xs : List (List ℕ)) (e : Ending PeerState) (h : Held) (notes : List Note) → (taken_by e (behind xs h) notes).node ≡ (taken_by e h notes).node

@@ -25,13 +25,13 @@ use Rattle.call_refinement.proofs.Agreement.{Stands, carried, is_safe}
 
 -- ## Strings without clashes
 
-in_contains : (strings : List (List ℕ)) (s : List ℕ) → s ∈ strings → Contains strings s
+pub in_contains : (strings : List (List ℕ)) (s : List ℕ) → s ∈ strings → Contains strings s
 in_contains [] s at = absurd at
 in_contains (x ∷ strings) s (inl same) = (0, omega arith, sym same)
 in_contains (x ∷ strings) s (inr at) = let there = in_contains strings s at in let within = there.1 in (suc there.0, omega (arith, within), there.2)
 
 -- strings of which no two clash are free of clashes
-free_of : (strings : List (List ℕ)) → HasNoClash strings → AreFree strings
+pub free_of : (strings : List (List ℕ)) → HasNoClash strings → AreFree strings
 free_of strings apart a b in_a in_b same = apart a b (in_contains strings a in_a) (in_contains strings b in_b) same
 
 -- ## A whole schedule

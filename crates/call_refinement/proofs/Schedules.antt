@@ -24,6 +24,7 @@ use Rattle.schedule_text.specs.Spelling.{MayStand, AllMayStand, call_ids}
 use Rattle.schedule_text.specs.declared.event.ScheduleEvent.{ScheduleEvent}
 use Rattle.schedule_text.specs.declared.form.Form.{Form}
 use Rattle.schedule_text.specs.declared.event.ScheduleEvent.TheVariants as line
+use Rattle.schedule_text.proofs.Ids.{id_among}
 use Rattle.schedule_words.specs.Spelling.{IsAmong}
 use Rattle.sync_laws.specs.Facts.{Lines}
 use Rattle.wire_frames.specs.declared.frame.Frame.{Frame}
@@ -146,7 +147,7 @@ pub record IsCarried (peers : ℕ) (lines : Lines) (whole : Run) (P : Run → St
 
 -- ## Ids of calls
 
-id_called : (n : ℕ) (events : List ScheduleEvent) (c : Call) → c ∈ calls_from n events → c.id ∈ call_ids events
+pub id_called : (n : ℕ) (events : List ScheduleEvent) (c : Call) → c ∈ calls_from n events → c.id ∈ call_ids events
 id_called n [] c m = absurd m
 id_called n (line.Call peer id key command ∷ more) c (inl e) = inl (ap (λ (d : Call). d.id) e)
 id_called n (line.Call peer id key command ∷ more) c (inr m) = inr (id_called (n + 1) more c m)
@@ -157,14 +158,9 @@ abbrev pub IsFresh : List ScheduleEvent → ScheduleEvent → Type 0
 IsFresh done (line.Call peer id key command) = id ∈ call_ids done → ⊥
 IsFresh done other = Unit {0}
 
-id_later : (done more : List ScheduleEvent) (peer id : ℕ) (key : List ℕ) (command : Command) → id ∈ call_ids (done ++ line.Call peer id key command ∷ more)
-id_later [] more peer id key command = inl refl
-id_later (line.Call p i k c ∷ done) more peer id key command = inr (id_later done more peer id key command)
-id_later (_ ∷ done) more peer id key command = id_later done more peer id key command
-
 fresh_call : (done more : List ScheduleEvent) (peer id : ℕ) (key : List ℕ) (command : Command) → AreDistinct (call_ids (done ++ line.Call peer id key command ∷ more)) → id ∈ call_ids done → ⊥
 fresh_call [] more peer id key command distinct m = m
-fresh_call (line.Call p i k c ∷ done) more peer id key command distinct (inl e) = distinct.0 (subst (λ (j : ℕ). j ∈ call_ids (done ++ line.Call peer id key command ∷ more)) e (id_later done more peer id key command))
+fresh_call (line.Call p i k c ∷ done) more peer id key command distinct (inl e) = distinct.0 (subst (λ (j : ℕ). j ∈ call_ids (done ++ line.Call peer id key command ∷ more)) e (id_among done more peer id key command))
 fresh_call (line.Call p i k c ∷ done) more peer id key command distinct (inr m) = fresh_call done more peer id key command distinct.1 m
 fresh_call (_ ∷ done) more peer id key command distinct m = fresh_call done more peer id key command distinct m
 
@@ -189,7 +185,7 @@ may_call done w s id key command reached agrees fresh = record { fresh = by_call
 -- ## Through a line
 
 -- a node at each place
-node_at : {A : Type 0} (xs : List A) (p : ℕ) → p < length xs → (x : A) × (slice_get xs p ≡ Some x)
+pub node_at : {A : Type 0} (xs : List A) (p : ℕ) → p < length xs → (x : A) × (slice_get xs p ≡ Some x)
 node_at [] p h = absurd (omega arith)
 node_at (x ∷ xs) zero h = (x, refl)
 node_at (x ∷ xs) (suc p) h = node_at xs p (omega arith)

@@ -34,7 +34,8 @@ use Rattle.version_laws.proofs.Maps.{put_other, put_then}
 use Rattle.wire_frames.specs.declared.frame.Frame.{Frame}
 use Rattle.world_spec.specs.Nodes.{Node, Up, Down, Taken, taken, taken_by, taken_of, run_over}
 use Rattle.world_spec.specs.Runs.{Run, place_of, frame_from, with_taken}
-use Rattle.call_refinement.proofs.ChangedStores.{stopped_fits, taken_strings, PutsBack, TakesBack}
+use Rattle.world_spec.proofs.Determined.{taken_strings}
+use Rattle.call_refinement.proofs.ChangedStores.{stopped_fits, PutsBack, TakesBack}
 use Rattle.call_refinement.proofs.HashedBefore.{behind, run_behind}
 use Rattle.step_refinement.proofs.CallByCall.{rest_task}
 use Rattle.step_refinement.specs.Scenes.{Scene, Elsewhere, Reached, Here, EventComes, EndsBy}

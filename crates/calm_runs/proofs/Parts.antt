@@ -1,9 +1,8 @@
 -- Small facts on nodes, messages, sets of peers and hashed strings.
-use Rattle.std.proofs.Common.{◌≡◌, ◌<◌, ◌==◌, inl, inr, refl, ap, sym, ◌∙◌, arith, ℕ, zero, suc, Bool, true, false, List, [], ◌∷◌, map, length, Option, None, Some}
-use Rattle.std.specs.Prelude.{◌≢◌, slice_get, slice_set, slice_index_or, replicate}
+use Rattle.std.proofs.Common.{◌≡◌, ◌<◌, ◌==◌, inl, inr, refl, sym, ◌∙◌, arith, ℕ, zero, suc, Bool, true, false, List, [], ◌∷◌, map, length, Option, None, Some}
+use Rattle.std.specs.Prelude.{◌≢◌, slice_get, slice_set, slice_index_or}
 use Rattle.std.proofs.lemmas.Bool.{eqb-true, eqb-false, false≢true}
 use Rattle.std.proofs.lemmas.List.{get_or-set_other}
-use Rattle.std.proofs.lemmas.Option.{none-some}
 use Rattle.ens_base.proofs.Lists.{in_left}
 use Rattle.ens_base.specs.Lists.{◌∈◌}
 use Rattle.ens_base.specs.PeerSet.{holds}
@@ -17,20 +16,9 @@ use Rattle.calm_steps.specs.TreeRefinement.{AreAmong}
 use Rattle.wire_frames.specs.declared.frame.Frame.{Frame}
 use Rattle.wire_frames.specs.declared.message.Message.{Message}
 use Rattle.call_refinement.specs.WorldSpec.{Node, Run, place_of, frame_from, posted_all, received, stepped_at}
+use Rattle.leading_laws.proofs.Votes.{none_held}
 
 -- ## Nodes and messages
-
-pub set_same : {A : Type 0} (xs : List A) (p : ℕ) (y m : A) → slice_get xs p ≡ Some m → slice_get (slice_set xs p y) p ≡ Some y
-set_same [] p y m is = absurd (none-some m is)
-set_same (x ∷ xs) zero y m is = refl
-set_same (x ∷ xs) (suc p) y m is = set_same xs p y m is
-
-pub set_other : {A : Type 0} (xs : List A) (p q : ℕ) (y : A) → (p ≡ q → ⊥) → slice_get (slice_set xs p y) q ≡ slice_get xs q
-set_other [] p q y other = refl
-set_other (x ∷ xs) zero zero y other = absurd (other refl)
-set_other (x ∷ xs) zero (suc q) y other = refl
-set_other (x ∷ xs) (suc p) zero y other = refl
-set_other (x ∷ xs) (suc p) (suc q) y other = set_other xs p q y (λ same. other (ap suc same))
 
 pub places_apart : (p q : ℕ) → IsPeer p → IsPeer q → p ≢ q → place_of p ≡ place_of q → ⊥
 places_apart p q pp qq other same = other (omega (arith, pp.0, qq.0, same))
@@ -53,11 +41,6 @@ flag_kept (x ∷ xs) zero (suc k) is = is
 flag_kept (x ∷ xs) (suc p) zero is = is
 flag_kept (x ∷ xs) (suc p) (suc k) is = flag_kept xs p k is
 
-no_flag : (n k : ℕ) → slice_index_or (replicate n false) k false ≡ false
-no_flag zero k = refl
-no_flag (suc n) zero = refl
-no_flag (suc n) (suc k) = no_flag n k
-
 pub alone_has : (p : ℕ) → IsPeer p → holds (alone p) p ≡ true
 alone_has p peer = flag_here nobody p (omega (arith, peer.1))
 
@@ -65,7 +48,7 @@ pub alone_only : (p k : ℕ) → holds (alone p) k ≡ true → k ≡ p
 alone_only p k voted = by (k == p) refl where
   by : (b : Bool) → (k == p) ≡ b → k ≡ p
   by true same = eqb-true k p same
-  by false other = absurd (false≢true (sym (get_or-set_other nobody p k true false (eqb-false k p other) ∙ no_flag 32 k) ∙ voted))
+  by false other = absurd (false≢true (sym (get_or-set_other nobody p k true false (eqb-false k p other) ∙ none_held 32 k) ∙ voted))
 
 -- what one peer is told goes to it alone
 pub told_one : (q p : ℕ) (m : Message) (sends : List Outgoing) (f : Frame) → ((x : Outgoing) → x ∈ sends → (x.to ≡ p) × (x.message ≡ m)) → f ∈ map (frame_from q) sends → (let g : Frame = record { from = q; to = p; message = m } in f ≡ g)

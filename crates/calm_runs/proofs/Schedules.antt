@@ -1,6 +1,6 @@
 -- A calm schedule completes each of its calls before the next one begins.
 use Rattle.std.proofs.Common.{◌≡◌, ◌⊎◌, ◌≤◌, ◌<◌, ◌^◌, ◌+◌, inl, inr, refl, ap, sym, ◌∙◌, subst, arith, ℕ, zero, suc, nat_lt, Bool, true, false, if◌then◌else◌, List, [], ◌∷◌, ◌++◌, append_assoc, append-nil, length, Option, None, Some}
-use Rattle.std.specs.Prelude.{slice_get, Contains}
+use Rattle.std.specs.Prelude.{slice_get}
 use Rattle.std.proofs.lemmas.List.{length-append}
 use Rattle.calm_order.proofs.Served.{served_more}
 use Rattle.calm_order.specs.Served.{AreServed}
@@ -10,7 +10,6 @@ use Rattle.ens_base.specs.Limits.{IsKey, IsCommand}
 use Rattle.ens_base.specs.Lists.{◌∈◌}
 use Rattle.ens_base.specs.View.{IsPeer}
 use Rattle.ens_base.specs.declared.command.Command.{Command}
-use Rattle.calm_steps.specs.HeldStores.{HasNoClash}
 use Rattle.joint_views.specs.Members.{those}
 use Rattle.network.specs.Mail.{oldest, is_among, most_messages}
 use Rattle.peer_state.specs.declared.event.Event.{Event}
@@ -28,6 +27,8 @@ use Rattle.calm_steps.specs.TreeRefinement.{AreAmong, AreFree}
 use Rattle.wire_frames.specs.declared.frame.Frame.{Frame}
 use Rattle.schedule_text.specs.declared.form.Form.{Form}
 use Rattle.call_refinement.proofs.WorldSpec.{calm_ends, calmed_grows, run_grows}
+use Rattle.call_refinement.proofs.ScheduleLaws.{free_of}
+use Rattle.call_refinement.proofs.BookSteps.{call_in_front}
 use Rattle.call_refinement.specs.WorldSpec.{call_of, counted, applied, run_from, run_of_schedule, IsWithinMessages, Node, Run, place_of, next_event, opening_run, stepped_at, stepped, ticked, without_waiting, received, received_if, delivered, going_on, calmed}
 use Rattle.calm_runs.specs.Calm.{ArePairs, IsCalmAt, RunsUndisturbed, run_of}
 use Rattle.calm_runs.proofs.FirstCalm.{first_calm}
@@ -79,15 +80,11 @@ answers_more [] a = refl
 answers_more (printed.Answer b ∷ lines) a = ap (λ (rest : List Answer). b ∷ rest) (answers_more lines a)
 answers_more (printed.Change event peer taken ∷ lines) a = answers_more lines a
 
-call_more : (e : ScheduleEvent) (k : ℕ) (calls last : List Called) → call_at e k (calls ++ last) ≡ call_at e k calls ++ last
-call_more (Call q id key command) k calls last = refl
-call_more e k calls last = refl
-
 calls_more : (k : ℕ) (done : List ScheduleEvent) (q id : ℕ) (key : List ℕ) (command : Command) → calls_from k (done ++ Call q id key command ∷ Calm ∷ []) ≡ calls_from k done ++ record { id = id; key = key; command = command; event = k + length done } ∷ []
 calls_more k [] q id key command = ap (λ (j : ℕ). (let c : Called = record { id = id; key = key; command = command; event = j } in c) ∷ []) (let same : k ≡ k + 0 = omega arith in same)
 calls_more k (e ∷ done) q id key command =
     ap (λ (rest : List Called). call_at e k rest) (calls_more (k + 1) done q id key command)
-    ∙ (call_more e k (calls_from (k + 1) done) (record { id = id; key = key; command = command; event = k + 1 + length done } ∷ [])
+    ∙ (call_in_front e k (calls_from (k + 1) done) (record { id = id; key = key; command = command; event = k + 1 + length done } ∷ [])
     ∙ ap (λ (j : ℕ). call_at e k (calls_from (k + 1) done) ++ (let c : Called = record { id = id; key = key; command = command; event = j } in c) ∷ []) (let same : k + 1 + length done ≡ k + suc (length done) = omega arith in same))
 
 -- ## Counting a line moves nothing
@@ -310,14 +307,6 @@ module _ (form : Form) (me peers : ℕ) (view : List ℕ) (listed : me ∈ view)
   completes other are = absurd are
 
 -- ## For each calm schedule
-
-in_contains : (strings : List (List ℕ)) (s : List ℕ) → s ∈ strings → Contains strings s
-in_contains [] s at = absurd at
-in_contains (x ∷ strings) s (inl same) = (0, omega arith, sym same)
-in_contains (x ∷ strings) s (inr at) = let there = in_contains strings s at in let within = there.1 in (suc there.0, omega (arith, within), there.2)
-
-free_of : (strings : List (List ℕ)) → HasNoClash strings → AreFree strings
-free_of strings apart a b in_a in_b same = apart a b (in_contains strings a in_a) (in_contains strings b in_b) same
 
 members_are : (low peers : ℕ) (members : List ℕ) → 1 ≤ low → peers ≤ 31 → AscendFrom low peers members → (q : ℕ) → q ∈ members → IsPeer q × (q ≤ peers)
 members_are low peers [] first few ascends q is = absurd is

@@ -55,6 +55,7 @@ use Rattle.wire_frames.specs.declared.frame.Frame.{Frame}
 use Rattle.wire_frames.specs.declared.message.Message.{Message}
 use Rattle.wire_frames.specs.declared.message.Message.TheVariants as messages
 use Rattle.call_refinement.specs.WorldSpec.{Up, Run, place_of, frame_from, next_event, posted_all}
+use Rattle.call_refinement.proofs.ChangedNodes.{set_same}
 use Rattle.calm_steps.proofs.CandidateSteps.{ballot, accepted}
 use Rattle.calm_steps.proofs.CheckReplies.{ended_calls}
 use Rattle.calm_steps.proofs.Contents.{OutcomeFits, outcome_fits}
@@ -70,7 +71,7 @@ use Rattle.calm_runs.proofs.Waits.{AllWaiting}
 use Rattle.calm_runs.proofs.ElectionReplies.{sent_both}
 use Rattle.calm_runs.proofs.ElectionRequests.{IsQuiet}
 use Rattle.calm_runs.proofs.Elections.{IsOther, rests}
-use Rattle.calm_runs.proofs.Parts.{is_mail_all, set_same}
+use Rattle.calm_runs.proofs.Parts.{is_mail_all}
 use Rattle.calm_runs.proofs.Rounds.{begins}
 use Rattle.calm_runs.proofs.ServedMembers.{with_map, map_here, map_other, each_map, at_mail}
 use Rattle.calm_runs.proofs.ServedRows.{known_here, known_stays, ended_rows, check_here, fits_in, staged, learned, numbered, rounded, freed, stored}

@@ -18,12 +18,13 @@ use Rattle.calm_steps.specs.TreeRefinement.{AreAmong, IsWhole}
 use Rattle.wire_frames.specs.declared.frame.Frame.{Frame}
 use Rattle.wire_frames.specs.declared.message.Message.{Message}
 use Rattle.call_refinement.specs.WorldSpec.{Up, Run, place_of, frame_from}
+use Rattle.call_refinement.proofs.ChangedNodes.{set_other}
 use Rattle.calm_steps.proofs.Keeping.{Keeping, Standing}
 use Rattle.calm_steps.proofs.CandidateSteps.{accepted}
 use Rattle.calm_runs.proofs.UnderWay.{Round, IsUnderWay, reply_of}
 use Rattle.calm_runs.proofs.ElectionRequests.{IsQuiet}
 use Rattle.calm_runs.proofs.Elections.{IsOther, rests, asking}
-use Rattle.calm_runs.proofs.Parts.{is_mail_all, set_other, places_apart}
+use Rattle.calm_runs.proofs.Parts.{is_mail_all, places_apart}
 use Rattle.calm_runs.proofs.Rounds.{delivers}
 use Rattle.calm_runs.proofs.ServedWorlds.{Scene, IsTold, Wait, Reads, Checks, Puts, Leading, Serves, Runs, IsUnknown, IsPast, Kind, round_for, votes_of}
 use Rattle.calm_runs.proofs.Standing.{Stands, stands_here, stands_other}

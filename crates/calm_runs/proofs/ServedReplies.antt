@@ -55,6 +55,7 @@ use Rattle.wire_frames.specs.declared.frame.Frame.{Frame}
 use Rattle.wire_frames.specs.declared.message.Message.{Message}
 use Rattle.wire_frames.specs.declared.message.Message.TheVariants as messages
 use Rattle.call_refinement.specs.WorldSpec.{Up, Run, place_of, received}
+use Rattle.call_refinement.proofs.ChangedNodes.{set_same}
 use Rattle.calm_steps.proofs.CandidateSteps.{ballot, accepted}
 use Rattle.calm_steps.proofs.CheckReplies.{heard_open, heard_met}
 use Rattle.calm_steps.proofs.Keeping.{Keeping}
@@ -64,7 +65,6 @@ use Rattle.calm_steps.proofs.Leads.{leads, told, LandsFrom}
 use Rattle.calm_steps.proofs.Serving.{Goes, AppliesEnd, missing, by_round}
 use Rattle.calm_runs.proofs.UnderWay.{Round, IsUnderWay}
 use Rattle.calm_runs.proofs.Elections.{IsOther, rests, replying}
-use Rattle.calm_runs.proofs.Parts.{set_same}
 use Rattle.calm_runs.proofs.Rounds.{delivers}
 use Rattle.calm_runs.proofs.ServedLeader.{runs_here, F, at_stage, at_known, Mid, applies_end, answers_now, waits_now, same_maps}
 use Rattle.calm_runs.proofs.ServedMembers.{with_map, at_mail}

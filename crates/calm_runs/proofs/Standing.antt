@@ -24,10 +24,11 @@ use Rattle.calm_steps.specs.TreeRefinement.{AreAmong, IsWhole}
 use Rattle.wire_frames.specs.declared.frame.Frame.{Frame}
 use Rattle.wire_frames.specs.declared.message.Message.{Message}
 use Rattle.call_refinement.specs.WorldSpec.{Up, Run, place_of, frame_from}
+use Rattle.call_refinement.proofs.ChangedNodes.{set_same, set_other}
 use Rattle.calm_steps.proofs.Keeping.{Keeping, Standing}
 use Rattle.calm_steps.proofs.RowsLand.{held_under}
 use Rattle.calm_steps.proofs.TreeCalls.{keeps, serves}
-use Rattle.calm_runs.proofs.Parts.{set_same, set_other, places_apart}
+use Rattle.calm_runs.proofs.Parts.{places_apart}
 use Rattle.calm_runs.proofs.Posting.{frame_sent, posted_only, posted_high, told_each}
 use Rattle.calm_runs.proofs.Worlds.{moved, whole_grows}
 

@@ -9,6 +9,7 @@ use Rattle.network.specs.Mail.{Mail, posted, settled, oldest, is_among, IsMail}
 use Rattle.network.proofs.Flags.{flag_stays}
 use Rattle.network.proofs.MailLaws.{is_mail_posted, is_mail_settled, flag_settled, clear_without_oldest}
 use Rattle.call_refinement.specs.WorldSpec.{posted_all}
+use Rattle.call_refinement.proofs.ChangedNodes.{get_push}
 use Rattle.wire_frames.specs.declared.frame.Frame.{Frame}
 use Rattle.calm_runs.proofs.Waits.{Waits, AllWaiting}
 
@@ -47,13 +48,6 @@ waits_settled m n g f is w = by (w.number == n) refl where
   by true same = inl (same_Some g f (sym is ∙ ap (λ k. slice_get m.sent k) (sym (eqb-true w.number n same)) ∙ w.sent))
   by false other = inr (record { number = w.number; sent = w.sent; waits = get_or-set_other m.waits n w.number false false (eqb-false w.number n other) ∙ w.waits })
 
--- conversely
-get_was : (sent : List Frame) (g f : Frame) (n : ℕ) → slice_get (sent ++ g ∷ []) n ≡ Some f → (slice_get sent n ≡ Some f) ⊎ (f ≡ g)
-get_was [] g f zero is = inr (sym (same_Some g f is))
-get_was [] g f (suc n) is = absurd (none-some f is)
-get_was (h ∷ sent) g f zero is = inl is
-get_was (h ∷ sent) g f (suc n) is = get_was sent g f n is
-
 flag_was_or : (sent : List Frame) (waits : List Bool) (g f : Frame) (n : ℕ) → length waits ≡ length sent → slice_get sent n ≡ Some f → slice_index_or (waits ++ true ∷ []) n false ≡ true → slice_index_or waits n false ≡ true
 flag_was_or [] waits g f n long is flag = absurd (none-some f is)
 flag_was_or (h ∷ sent) [] g f n long is flag = absurd (omega (arith, long))
@@ -61,7 +55,7 @@ flag_was_or (h ∷ sent) (w ∷ waits) g f zero long is flag = flag
 flag_was_or (h ∷ sent) (w ∷ waits) g f (suc n) long is flag = flag_was_or sent waits g f n (omega (arith, long)) is flag
 
 pub was_posted : (m : Mail) (g f : Frame) → IsMail m → Waits (posted m g) f → Waits m f ⊎ (f ≡ g)
-was_posted m g f mail w = by (get_was m.sent g f w.number w.sent) where
+was_posted m g f mail w = by (get_push m.sent g f w.number w.sent) where
   by : (slice_get m.sent w.number ≡ Some f) ⊎ (f ≡ g) → Waits m f ⊎ (f ≡ g)
   by (inr e) = inr e
   by (inl is) = inl (record { number = w.number; sent = is; waits = flag_was_or m.sent m.waits g f w.number mail is w.waits })

@@ -1,19 +1,12 @@
 -- The lines of a calm, one delivery after another.
-use Rattle.std.proofs.Common.{◌≡◌, ◌<◌, ◌≤◌, ◌+◌, ◌-◌, ◌++◌, ℕ, suc, None, Some, List, [], refl, sym, ap, ◌∙◌, arith}
+use Rattle.std.proofs.Common.{◌≡◌, ◌<◌, ◌≤◌, ◌+◌, ◌-◌, ◌++◌, ℕ, suc, None, Some, List, [], refl, sym, ap, ◌∙◌}
 use Rattle.std.specs.Prelude.{Bool}
 use Rattle.std.proofs.lemmas.List.{append-nil, append_assoc}
 use Rattle.network.specs.Mail.{is_among, oldest, most_messages}
 use Rattle.world_spec.specs.Runs.{Run, delivered, unhashed}
+use Rattle.world_spec.proofs.Turns.{one_more}
 use Rattle.chart.specs.Lines.{delivery_lines, calm_on, calm_lines}
-
-one_more : (n i : ℕ) → i < n → n - i ≡ suc (n - (i + 1))
-one_more n i below = omega (arith, below)
-
-none_left : (n i : ℕ) → n ≤ i → n - i ≡ 0
-none_left n i le = omega (arith, le)
-
-minus_zero : (n : ℕ) → n - 0 ≡ n
-minus_zero n = omega arith
+use Rattle.world_model.proofs.Loops.{minus_zero, none_left}
 
 no_turn : (peers : List Bool) (w : Run) → calm_lines peers 0 w ≡ []
 unfolding calm_lines

@@ -1,12 +1,10 @@
 -- The peers, one after another, and the lines that are shown.
-use Rattle.std.proofs.Common.{◌≡◌, ◌<◌, ◌≤◌, ◌+◌, ◌-◌, ◌++◌, ◌∷◌, ℕ, suc, List, length, get_or, take, drop, map, refl, sym, ap, ◌∙◌, arith}
+use Rattle.std.proofs.Common.{◌≡◌, ◌<◌, ◌+◌, ◌-◌, ◌++◌, ◌∷◌, ℕ, List, length, get_or, drop, map, refl, sym, ap, ◌∙◌}
 use Rattle.std.proofs.lemmas.List.{append_assoc, drop-map, drop_more}
 use Rattle.std.specs.Prelude.{true, false}
 use Rattle.ens_base.specs.Lists.{same_bytes}
 use Rattle.chart.specs.Text.{peer_line, peers_text, shown_after, shown_line}
-
-one_more : (n i : ℕ) → i < n → n - i ≡ suc (n - (i + 1))
-one_more n i below = omega (arith, below)
+use Rattle.world_spec.proofs.Turns.{one_more}
 
 -- one more peer has been written
 pub peers_next : (old new : List ℕ) (below peers : ℕ) (whole : List ℕ) → below < peers → old ++ peers_text (below + 1) (peers - below) ≡ whole → new ≡ old ++ peer_line (below + 1)

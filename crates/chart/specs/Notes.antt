@@ -9,7 +9,7 @@ use Rattle.register_model.specs.declared.printed.Printed.{Printed}
 use Rattle.register_model.specs.declared.printed.Printed.TheVariants as lines
 use Rattle.schedule_text.specs.Spelling.{event_line}
 use Rattle.schedule_text.specs.declared.event.ScheduleEvent.{ScheduleEvent}
-use Rattle.schedule_text.specs.declared.event.ScheduleEvent.TheVariants.{Call, Tick, Deliver, Pass, Lose, Calm, CalmAmong, Change, Stop, Start, Upgrade, Spoil, Damage, Inner, Revert, Fail}
+use Rattle.schedule_text.specs.declared.event.ScheduleEvent.TheVariants.{Call, Tick, Change, Stop, Start, Upgrade, Spoil, Damage, Inner, Revert, Fail}
 use Rattle.wire_frames.specs.declared.frame.Frame.{Frame}
 use Rattle.world_model.specs.declared.watching.Activity.{Activity}
 use Rattle.chart.specs.declared.fate.Fate.{Fate}

@@ -1,5 +1,5 @@
 -- The text of a chart.
-use Rattle.std.specs.Prelude.{ℕ, zero, suc, ◌+◌, ◌<◌, ◌==◌, List, [], ◌∷◌, ◌++◌, codes, take, length, nat_lt, if◌then◌else◌}
+use Rattle.std.specs.Prelude.{ℕ, zero, suc, ◌+◌, ◌==◌, List, [], ◌∷◌, ◌++◌, codes, take, length, nat_lt, if◌then◌else◌}
 use Rattle.std.specs.Fmt.{decimal}
 use Rattle.ens_base.specs.Lists.{same_bytes}
 use Rattle.schedule_text.specs.declared.schedule.Schedule.{Schedule}

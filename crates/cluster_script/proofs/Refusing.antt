@@ -15,6 +15,7 @@ use Rattle.schedule_text.specs.Errors.{at_line}
 use Rattle.schedule_text.specs.Reading.{bounded, most_lines}
 use Rattle.schedule_text.specs.declared.error.ScheduleError.{ScheduleError}
 use Rattle.schedule_text.specs.declared.error.ScheduleError.TheVariants.{Bad, Lines, Memory}
+use Rattle.schedule_text.proofs.SchedulesRead.{at_line_ok}
 use Rattle.cluster_script.specs.Reading.{Refuses, TakesLine, of_next, of_schedule}
 use Rattle.cluster_script.specs.Scripts.{ended, is_repeated, line_of, next_line, with_line}
 use Rattle.cluster_script.specs.declared.line.ScriptLine.{ScriptLine}
@@ -24,10 +25,6 @@ use Rattle.cluster_script.specs.declared.read.ReadError.TheVariants as read
 pub from_bind : {A B G : Type 0} (r : Result A Cause) (f : A → Result B Cause) (q : B) → (r >>= f) ≡ Ok q → ((x : A) → f x ≡ Ok q → G) → G
 from_bind (Ok x) f q h go = go x h
 from_bind (Err c) f q h go = absurd cc
-
-pub from_line : {A : Type 0} (n : ℕ) (r : Result A Cause) (q : A) → at_line n r ≡ Ok q → r ≡ Ok q
-from_line n (Ok x) q h = cc
-from_line n (Err c) q h = absurd cc
 
 pub from_test : {A : Type 0} (b : Bool) (r : Result A ScheduleError) (q : A) → (if b then Err Lines else r) ≡ Ok q → r ≡ Ok q
 from_test true r q h = absurd cc
@@ -58,7 +55,7 @@ module _ (peers : ℕ) where
   -- a line that is taken adds one to the count
   pub line_counts : (old new : List ScriptLine) (text : List ℕ) → next_line peers old text ≡ Ok new → length new ≡ length old + 1
   line_counts old new text ok =
-      from_bind (line_of peers text) (with_line old) new (from_line (length old + 1) (line_of peers text >>= with_line old) new (from_test (length old == most_lines) (at_line (length old + 1) (line_of peers text >>= with_line old)) new ok)) (λ line e. added line (is_repeated old line) e)
+      from_bind (line_of peers text) (with_line old) new (at_line_ok (length old + 1) (line_of peers text >>= with_line old) new (from_test (length old == most_lines) (at_line (length old + 1) (line_of peers text >>= with_line old)) new ok)) (λ line e. added line (is_repeated old line) e)
     where
       added : (line : ScriptLine) (b : Bool) → (let r : Result (List ScriptLine) Cause = if b then Err Repeated else Ok (old ++ line ∷ []) in r ≡ Ok new) → length new ≡ length old + 1
       added line true e = absurd cc

@@ -26,10 +26,11 @@ use Rattle.schedule_text.specs.declared.event.ScheduleEvent.TheVariants.{Call, T
 use Rattle.schedule_text.proofs.EventsRead.{event_of-ok}
 use Rattle.schedule_text.proofs.Ids.{distinct_with}
 use Rattle.schedule_text.proofs.OneLine.{event_are_words}
+use Rattle.schedule_text.proofs.SchedulesRead.{at_line_ok}
 use Rattle.cluster_script.specs.Scripts.{AllMayBeLines, IsScript, IsScripted, MayBeLine, calls_id, ended, is_repeated, is_scripted, line_of, next_line, script_events, scripted_of, turn_of, with_line, words_line}
 use Rattle.cluster_script.specs.declared.line.ScriptLine.{ScriptLine}
 use Rattle.cluster_script.specs.declared.line.ScriptLine.TheVariants.{Event, Turn}
-use Rattle.cluster_script.proofs.Refusing.{from_line, from_test}
+use Rattle.cluster_script.proofs.Refusing.{from_test}
 
 -- ---- an event of a script begins with one of five words
 
@@ -171,7 +172,7 @@ begun_with (Err c) f q h go = absurd cc
 -- a script with one line more is a script
 pub next_stands : (peers : ℕ) (old new : List ScriptLine) (text : List ℕ) → peers ≤ 31 → next_line peers old text ≡ Ok new → IsScript peers old → IsScript peers new
 next_stands peers old new text few next is =
-    begun_with (line_of peers text) (with_line old) new (from_line (length old + 1) (line_of peers text >>= with_line old) new (from_test (length old == most_lines) (at_line (length old + 1) (line_of peers text >>= with_line old)) new next))
+    begun_with (line_of peers text) (with_line old) new (at_line_ok (length old + 1) (line_of peers text >>= with_line old) new (from_test (length old == most_lines) (at_line (length old + 1) (line_of peers text >>= with_line old)) new next))
     (λ line read with. by line (line_stands peers few text line read) (added old new line with))
   where
     by : (line : ScriptLine) → MayBeLine peers line → (is_repeated old line ≡ false) × (new ≡ old ++ line ∷ []) → IsScript peers new

@@ -67,7 +67,7 @@ scripted_none (Stop peer) is = refl
 scripted_none (Start peer) is = refl
 scripted_none event is = absurd is
 
-scripted_before : (event : ScheduleEvent) (m : Mail) → IsScripted event → mail_before event m ≡ m
+pub scripted_before : (event : ScheduleEvent) (m : Mail) → IsScripted event → mail_before event m ≡ m
 scripted_before (Call peer id key command) m is = refl
 scripted_before (Tick peer ticks) m is = refl
 scripted_before (Change peer view) m is = refl
@@ -75,7 +75,7 @@ scripted_before (Stop peer) m is = refl
 scripted_before (Start peer) m is = refl
 scripted_before event m is = absurd is
 
-scripted_may : (peers : ℕ) (m : Mail) (event : ScheduleEvent) → MayBeLine peers (Event event) → MayBeRecorded peers m event
+pub scripted_may : (peers : ℕ) (m : Mail) (event : ScheduleEvent) → MayBeLine peers (Event event) → MayBeRecorded peers m event
 scripted_may peers m (Call peer id key command) may = may
 scripted_may peers m (Tick peer ticks) may = may
 scripted_may peers m (Change peer view) may = may

@@ -6,16 +6,13 @@ use Rattle.cluster_script.specs.Scripts.{script_events}
 use Rattle.cluster_spec.specs.Recordings.{Follows, IsRunOf, Recording, delivering, found, heard, heard_all, recorded, recorded_form, without_deliveries}
 use Rattle.schedule_text.specs.declared.event.ScheduleEvent.{ScheduleEvent}
 use Rattle.schedule_text.specs.declared.event.ScheduleEvent.TheVariants.{Deliver}
-use Rattle.world_spec.specs.Lines.{applied, run_from}
-use Rattle.world_spec.specs.Runs.{Run, opening_run}
-
-pub run_last : (lines : List ScheduleEvent) (line : ScheduleEvent) (w : Run) → run_from (lines ++ line ∷ []) w ≡ applied line (run_from lines w)
-run_last [] line w = refl
-run_last (e ∷ lines) line w = run_last lines line (applied e w)
+use Rattle.world_spec.specs.Lines.{applied}
+use Rattle.world_spec.specs.Runs.{opening_run}
+use Rattle.world_spec.proofs.Calming.{run_to_last}
 
 module _ (peers : ℕ) (view : List ℕ) where
   pub recorded_run : (event : ScheduleEvent) (r : Recording) → IsRunOf peers view r → IsRunOf peers view (recorded event r)
-  recorded_run event r is = ap (applied event) is ∙ sym (run_last r.events event (opening_run recorded_form peers view))
+  recorded_run event r is = ap (applied event) is ∙ sym (run_to_last r.events event (opening_run recorded_form peers view))
 
   pub delivering_run : (n : Option ℕ) (r : Recording) → IsRunOf peers view r → IsRunOf peers view (delivering n r)
   delivering_run None r is = is

@@ -1,5 +1,4 @@
 -- What stores on disks answer to a call is what the stores in memory answer for which they stand.
-use Rattle.std.specs.Option.{IsSomeAnd}
 use Rattle.std.proofs.Common.{◌≡◌, ℕ, List, Option, None, Some, Result, Ok, Err, refl, sym, ap, ◌∙◌, subst}
 use Rattle.std.proofs.lemmas.Option.{none-some}
 use Rattle.disk_stores.specs.DiskCalls.{HoldsNodes, HoldsObjects}
@@ -9,6 +8,7 @@ use Rattle.ens_base.specs.declared.entry.Entry.{Entry}
 use Rattle.fact_store.specs.Files.{file_faults, file_kept}
 use Rattle.fact_store.specs.Keeping.{Loads}
 use Rattle.held_stores.proofs.Walking.{end_was, goes_on}
+use Rattle.held_stores.proofs.Answering.{some_root, looked_end}
 use Rattle.held_stores.specs.Answers.{Answered, answered, by_walk, walked, looked, entered, whole, done, root_after, root_read, root_kept, version_given, with_facts, with_backend, facts_failed, objects_failed}
 use Rattle.held_stores.specs.Held.{HeldStores}
 use Rattle.held_stores.specs.Laws.{held_with}
@@ -35,14 +35,6 @@ use Rattle.tree_repair.specs.TreeVerify.{scan_plan}
 use Rattle.world_stores.specs.Facts.{kept_of}
 use Rattle.disk_runs.specs.Memory.{StandsFor, StandsOpen, held_in}
 use Rattle.disk_runs.proofs.Walks.{tree_does, walk_so}
-
-some_root : (P : List ℕ → Type 0) (o : Option (List ℕ)) → IsSomeAnd o P → (root : List ℕ) × (o ≡ Some root) × P root
-some_root P (Some root) is = (root, refl, is)
-some_root P None is = absurd is
-
-looked_end : {A : Type 0} (w : Walked A) → looked (end_was (end_of w)) ≡ Ok w
-looked_end (Reached x) = refl
-looked_end (Broken at) = refl
 
 -- what was loaded is what is kept
 loads_so : (a kept : Option SavedFact) (before now : ℕ) → Loads (kept_of kept) before now (Ok a) → a ≡ kept

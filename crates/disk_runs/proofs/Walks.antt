@@ -13,6 +13,7 @@ use Rattle.tree_node.specs.declared.position.Position.{Position}
 use Rattle.tree_refinement.proofs.Recording.{last_top}
 use Rattle.world_stores.specs.Nodes.{Nodes, refusal, answer, after}
 use Rattle.disk_runs.specs.Memory.{held_in}
+use Rattle.world_spec.proofs.Ending.{none_refused}
 
 -- what a call does to nodes is the same for both
 answers_same : (k : Nodes) (call : NodeCall) → node_answer (held_in k) call ≡ answer k call
@@ -26,13 +27,6 @@ after_same k (Read digest) = refl
 after_same k (Write digest bytes) = refl
 after_same k Top = refl
 after_same k (SetTop digest) = let held : Option (List ℕ) → NodesHeld = λ top. record { entries = k.entries; top = top } in ap held (sym (last_top k.tops digest))
-
--- no call is refused if no failure waits, and then none waits after it
-none_refused : (k : Nodes) (call : NodeCall) → k.faults.pending ≡ None → refusal k call ≡ None
-none_refused k (Read digest) none = refl
-none_refused k (Write digest bytes) none = refl
-none_refused k Top none = refl
-none_refused k (SetTop digest) none = none
 
 none_after : (k : Nodes) (call : NodeCall) → k.faults.pending ≡ None → (after k call).faults.pending ≡ None
 none_after k (Read digest) none = none

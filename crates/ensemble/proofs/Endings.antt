@@ -7,7 +7,7 @@ use Rattle.ens_words.specs.declared.job.Job.TheVariants.{Replay, Peer, Cluster, 
 use Rattle.ens_words.specs.declared.job.WordsError.TheVariants.{Usage}
 use Rattle.ens_words.proofs.Exactly.{job_back}
 use Rattle.ens_words.specs.Reading.{job_of}
-use Rattle.backup_job.proofs.Completing.{memory_read as check_memory_read, usage_read as check_usage_read}
+use Rattle.backup_job.proofs.Completing.{memory_read as check_memory_read, usage_read as check_usage_read, at_usage, fault_at_usage, at_memory, fault_at_memory}
 use Rattle.backup_job.specs.Printed.{HasRead as HasReadBackup}
 use Rattle.ensemble_root.proofs.Completing.{memory_read as root_memory_read, usage_read as root_usage_read}
 use Rattle.ensemble_root.specs.Jobs.{HasRead as HasReadRoot}
@@ -69,13 +69,6 @@ given_did_read given words Q f is job asks = f job (subst (λ (g : Result (List 
 pub not_to_read : (given : Result (List (List ℕ)) ArgumentsError) (words : List (List ℕ)) (Q : Type 0) → (¬ AskToRead words → Q) → given ≡ Ok words → ¬ GivenToRead given → Q
 not_to_read given words Q f is none = f (λ asks. none (subst GivenToRead (sym is) asks))
 
--- a job that ended before it began, or at whose start memory ran out, left its source as it was
-at_usage : ◌≡◌ {A = Status} Status.Usage Status.Done → ⊥
-at_usage e = cc e
-
-fault_at_usage : ◌≡◌ {A = Status} Status.Usage Status.ReadFault → ⊥
-fault_at_usage e = cc e
-
 pub usage_did_read : (job : Job) (source : Option (List ℕ)) (before now : ℕ) → DidRead job source source before now Status.Usage
 usage_did_read Replay source before now = usage_read source before now
 usage_did_read Audit source before now = record { end = λ e. absurd (at_usage e); fault = λ e. absurd (fault_at_usage e); cut = λ e. absurd (fault_at_usage e) }
@@ -86,12 +79,6 @@ usage_did_read Root source before now = root_usage_read source before now
 usage_did_read (Peer w) source before now = tt
 usage_did_read (Cluster w) source before now = tt
 usage_did_read (Generate number calls summary) source before now = tt
-
-at_memory : ◌≡◌ {A = Status} Status.Memory Status.Done → ⊥
-at_memory e = cc e
-
-fault_at_memory : ◌≡◌ {A = Status} Status.Memory Status.ReadFault → ⊥
-fault_at_memory e = cc e
 
 pub memory_did_read : (job : Job) (source : Option (List ℕ)) (before now : ℕ) → DidRead job source source before now Status.Memory
 memory_did_read Replay source before now = memory_read source before now

@@ -2,6 +2,7 @@
 use Rattle.std.proofs.Common.{◌≡◌, ◌⊎◌, ℕ, zero, suc, ◌+◌, ◌<◌, Bool, true, false, List, [], ◌∷◌, ◌++◌, Option, None, Some, length, get_or, take, refl, ap, sym, ◌∙◌, subst, arith, inl, inr}
 use Rattle.std.specs.Prelude.{nat_lt, ◌==◌}
 use Rattle.std.proofs.lemmas.Bool.Decides.{nat_tests}
+use Rattle.std.proofs.lemmas.Bool.{lt-ltb}
 use Rattle.md5.specs.Md5.{md5}
 use Rattle.ens_base.specs.declared.entry.Entry.{Entry}
 use Rattle.ens_base.specs.declared.epoch.Version.{Version}
@@ -29,9 +30,6 @@ above_has : (a : List ℕ) (m : List Entry) (k : List ℕ) (v : Version) → IsB
 above_has a [] k v b h = absurd h
 above_has a (x ∷ m) k v b (inl (is, le)) = subst (λ (q : List ℕ). is_above a q ≡ true) is (ap is_less b.0)
 above_has a (x ∷ m) k v b (inr h) = above_has a m k v b.1 h
-
-lt_true : (a b : ℕ) → a < b → nat_lt a b ≡ true
-lt_true a b l = grind (arith, nat_tests)
 
 same_true : (a : ℕ) → (a == a) ≡ true
 same_true a = grind (arith, nat_tests)
@@ -77,7 +75,7 @@ page_keeps tree n at rest after received own m k v ask is sorted has covers = by
 
     read : Passes tree k at → OnPage (suc n) (beyond after (under (form_of tree) at m)) k v → Covers tree (after_page at (take (suc n) (beyond after (under (form_of tree) at m))) (nat_lt (suc n) (length (beyond after (under (form_of tree) at m)))) ask) own k v
     read p (inl r) = ends (inr (inl (has_behind received (take (suc n) (beyond after (under (form_of tree) at m))) k v r)))
-    read p (inr (l, a, e, lt)) = past (nat_lt (suc n) (length (beyond after (under (form_of tree) at m)))) a (lt_true (suc n) (length (beyond after (under (form_of tree) at m))) l) e p lt
+    read p (inr (l, a, e, lt)) = past (nat_lt (suc n) (length (beyond after (under (form_of tree) at m)))) a (lt-ltb (suc n) (length (beyond after (under (form_of tree) at m))) l) e p lt
 
     by : Covers tree (record { current = Some (record { position = at; after = after }); left = rest; received = received }) own k v → Covers tree (after_page at (take (suc n) (beyond after (under (form_of tree) at m))) (nat_lt (suc n) (length (beyond after (under (form_of tree) at m)))) ask) own k v
     by (inr (inl h)) = ends (inr (inl (has_append received (take (suc n) (beyond after (under (form_of tree) at m))) k v h)))

@@ -2,6 +2,7 @@
 use Rattle.std.proofs.Common.{◌≡◌, ◌⊎◌, ℕ, zero, suc, ◌+◌, ◌-◌, Bool, true, false, List, [], ◌∷◌, Option, None, Some, Result, Ok, Err, refl, ap, sym, ◌∙◌, subst, arith, inl, inr}
 use Rattle.std.specs.Prelude.{◌==◌, if◌then◌else◌}
 use Rattle.std.proofs.lemmas.Bool.Decides.{nat_tests}
+use Rattle.std.proofs.lemmas.Bool.{eq-eqb}
 use Rattle.ens_base.specs.declared.entry.Entry.{Entry}
 use Rattle.tree_node.specs.declared.body.TreeBody.{TreeBody}
 use Rattle.tree_node.specs.declared.body.TreeBody.TheVariants.{Inner, Page}
@@ -33,9 +34,6 @@ present_is zero es t = inr refl
 present_is (suc l) [] t = inl (refl, refl)
 present_is (suc l) (e ∷ es) t = inr refl
 
-pub is_last : (l n : ℕ) → l ≡ n → (l == n) ≡ true
-is_last l n e = grind (arith, nat_tests)
-
 -- ## A segment
 
 segment_sent : (at : Position) (after : Option (List ℕ)) (es : List Entry) (r : Result Segment NodeError) → entries_in r ≡ Some es → segment_body at after r ≡ page_of after es
@@ -46,7 +44,7 @@ pub give_page : (tree : TreeVersion) (m : List Entry) (q : Question) → IsMap m
 give_page tree m q ok p low = by (present_is q.position.level (under (form_of tree) q.position m) (text_at (form_of tree) q.position m))
   where
     test : (q.position.level == levels tree) ≡ true
-    test = is_last q.position.level (levels tree) low
+    test = eq-eqb q.position.level (levels tree) low
 
     bottom : (form_of tree).depth - q.position.level ≡ 0
     bottom = let d : (form_of tree).depth ≡ levels tree = depth_is tree in omega (arith, low, d)

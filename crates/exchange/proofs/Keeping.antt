@@ -2,7 +2,7 @@
 use Rattle.std.proofs.Common.{◌≡◌, ◌≢◌, ◌⊎◌, ℕ, zero, suc, ◌+◌, ◌-◌, ◌*◌, ◌/◌, ◌%◌, ◌<◌, ◌≤◌, Bool, true, false, List, [], ◌∷◌, Option, None, Some, length, get_or, take, refl, ap, sym, ◌∙◌, subst, arith, inl, inr}
 use Rattle.ens_base.proofs.Lists.{bytes_same}
 use Rattle.std.specs.Prelude.{nat_lt, ◌==◌, ◌&&◌, not, if◌then◌else◌}
-use Rattle.std.proofs.lemmas.Bool.{and_parts}
+use Rattle.std.proofs.lemmas.Bool.{and_parts, eqb-true, eq-eqb}
 use Rattle.std.proofs.lemmas.Bool.Decides.{nat_tests}
 use Rattle.std.proofs.Math.Nat.{mod-eq_of_lt, div-eq_of_lt, mul-add-div, mul-add-mod_self_left}
 use Rattle.md5.specs.Md5.{md5}
@@ -34,12 +34,9 @@ use Rattle.exchange.specs.Covers.{Has, Passes, IsLeft, Covers, give_of, IsOwn, A
 use Rattle.exchange.proofs.Having.{has_in, in_has, from_filter}
 use Rattle.exchange.proofs.Covering.{page_keeps, IsFair, inner_keeps}
 use Rattle.exchange.proofs.Lying.{passes_none}
-use Rattle.exchange.proofs.Gifts.{is_last, give_page, give_inner, own_names}
+use Rattle.exchange.proofs.Gifts.{give_page, give_inner, own_names}
 
 -- ## The open question
-
-pub same_number : (a b : ℕ) → (a == b) ≡ true → a ≡ b
-same_number a b e = grind (arith, nat_tests)
 
 after_is : (a b : Option (List ℕ)) → same_after a b ≡ true → a ≡ b
 after_is None None e = refl
@@ -51,8 +48,8 @@ question_is : (a b : Question) → same_question a b ≡ true → a ≡ b
 question_is a b e =
     let both = and_parts (same_position a.position b.position) (same_after a.after b.after) e in
     let place = and_parts (a.position.level == b.position.level) (a.position.index == b.position.index) both.0 in
-    let level = same_number a.position.level b.position.level place.0 in
-    let index = same_number a.position.index b.position.index place.1 in
+    let level = eqb-true a.position.level b.position.level place.0 in
+    let index = eqb-true a.position.index b.position.index place.1 in
     let after = after_is a.after b.after both.1 in
     λ i. record { position = record { level = level i; index = index i }; after = after i }
 
@@ -160,7 +157,7 @@ take_keeps tree scan own q body ask m n k v p ok has sent is apart covers = by (
 
     last : is_open ask.current q ≡ true → q.position.level ≡ levels tree → Covers tree (reply tree scan.damaged (names_in tree q.position own) q.position body ask).1 scan.entries k v
     last e low =
-        let test : (q.position.level == levels tree) ≡ true = is_last q.position.level (levels tree) low in
+        let test : (q.position.level == levels tree) ≡ true = eq-eqb q.position.level (levels tree) low in
         let takes : (q.position.level == levels tree && not (is_empty (take 32 (beyond q.after (under (form_of tree) q.position m))) && nat_lt 32 (length (beyond q.after (under (form_of tree) q.position m))))) ≡ true = λ i. test i && not (whole_page 31 (beyond q.after (under (form_of tree) q.position m)) i) in
         subst (λ (b : TreeBody). Covers tree (reply tree scan.damaged (names_in tree q.position own) q.position b ask).1 scan.entries k v) (sym (sent ∙ give_page tree m q ok p low))
         (subst (λ (b : Bool). Covers tree (if b then stepped (after_page q.position (take 32 (beyond q.after (under (form_of tree) q.position m))) (nat_lt 32 (length (beyond q.after (under (form_of tree) q.position m)))) ask) else (steps.Dropped, ask)).1 scan.entries k v) (sym takes)

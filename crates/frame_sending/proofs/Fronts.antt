@@ -19,7 +19,7 @@ use Rattle.frame_sending.specs.Sending.{BrokeOff, SendsInOrder, SentAll, SentSom
 abbrev Sent : Type 0
 Sent = Option (List (ℕ × List ℕ))
 
-stays_grew : {A : Type 0} (old new : Option (List A)) → StaysTold old new → Grew old new []
+pub stays_grew : {A : Type 0} (old new : Option (List A)) → StaysTold old new → Grew old new []
 stays_grew None new stays = tt
 stays_grew (Some xs) new stays = stays ∙ ap (λ (l : List _). Some l) (sym (append-nil xs))
 

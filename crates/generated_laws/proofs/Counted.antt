@@ -1,9 +1,8 @@
 -- What the summary counts in a run that completes its calls one after another.
 use Rattle.std.proofs.Common.{◌≡◌, ℕ, suc, ◌+◌, Bool, true, false, cond, not, ◌||◌, if◌then◌else◌, List, [], ◌∷◌, length, count_by, None, Some, refl, sym, ap, subst, ◌∙◌, arith, inl, inr}
-use Rattle.std.specs.Prelude.{◌==◌}
 use Rattle.std.specs.List.{AllByRecursion, list_any}
-use Rattle.std.proofs.lemmas.Bool.Decides.{nat_tests}
 use Rattle.std.proofs.lemmas.List.Sums.{sum_by-cons}
+use Rattle.std.proofs.lemmas.Bool.{or_right, eq-eqb}
 use Rattle.calm_order.proofs.Served.{served}
 use Rattle.calm_order.specs.Served.{AreServed}
 use Rattle.replay.proofs.CalmRuns.{calls_complete}
@@ -83,22 +82,15 @@ none_refused (lines.Change event peer taken ∷ more) done = count_no (answers_w
 
 -- ## No call is unknown
 
-same_id : (a b : ℕ) → a ≡ b → (a == b) ≡ true
-same_id a b same = grind (arith, nat_tests)
-
 settled : (id : ℕ) (a : Answer) → a.id ≡ id → IsDone a.reply → settles id (lines.Answer a) ≡ true
 settled id a named done =
-    ap (λ (t : Bool). is_id id (if t || is_refused a.reply then Some a.id else None)) (done_is a.reply done) ∙ same_id a.id id named
-
-or_later : (b t : Bool) → t ≡ true → (b || t) ≡ true
-or_later true t is = refl
-or_later false t is = is
+    ap (λ (t : Bool). is_id id (if t || is_refused a.reply then Some a.id else None)) (done_is a.reply done) ∙ eq-eqb a.id id named
 
 settled_in : (id : ℕ) (printed : List Printed) (a : Answer) → a ∈ answers_in printed → a.id ≡ id → IsDone a.reply → list_any (settles id) printed ≡ true
 settled_in id [] a is named done = absurd is
 settled_in id (lines.Answer b ∷ more) a (inl same) named done =
     ap (λ (t : Bool). t || list_any (settles id) more) (settled id b (subst (λ (z : Answer). z.id ≡ id) same named) (subst (λ (z : Answer). IsDone z.reply) same done))
-settled_in id (lines.Answer b ∷ more) a (inr is) named done = or_later (settles id (lines.Answer b)) (list_any (settles id) more) (settled_in id more a is named done)
+settled_in id (lines.Answer b ∷ more) a (inr is) named done = or_right (settles id (lines.Answer b)) (list_any (settles id) more) (settled_in id more a is named done)
 settled_in id (lines.Change event peer taken ∷ more) a is named done = settled_in id more a is named done
 
 none_unknown : (printed : List Printed) (n : ℕ) (events : List ScheduleEvent) → ((c : Call) → c ∈ calls_from n events → list_any (settles c.id) printed ≡ true) → count_by (is_unknown printed) events ≡ 0

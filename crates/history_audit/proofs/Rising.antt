@@ -21,7 +21,7 @@ Rises (k ∷ ks) = IsBelow k ks × Rises ks
 total : IsTotalOrder bytes_cmp
 total = nat_list_cmp_total
 
-inserted : (ks : List (List ℕ)) (k y : List ℕ) → y ∈ insert_key bytes_cmp ks k → (y ≡ k) ⊎ (y ∈ ks)
+pub inserted : (ks : List (List ℕ)) (k y : List ℕ) → y ∈ insert_key bytes_cmp ks k → (y ≡ k) ⊎ (y ∈ ks)
 inserted [] k y there = there
 inserted (x ∷ xs) k y there = by (bytes_cmp k x) there (λ (m : y ∈ insert_key bytes_cmp xs k). inserted xs k y m)
   where

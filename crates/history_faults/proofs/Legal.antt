@@ -2,7 +2,7 @@
 use Rattle.std.proofs.Common.{◌≡◌, ℕ, zero, suc, ◌<◌, ◌≤◌, Bool, true, false, List, [], ◌∷◌, map, Option, None, Some, inl, inr, ◌⊎◌, refl, sym, ap, subst, ◌∙◌, arith}
 use Rattle.std.specs.Prelude.{◌==◌, ◌&&◌, ◌||◌, not, nat_lt, slice_get, if◌then◌else◌}
 use Rattle.std.specs.List.{list_any}
-use Rattle.std.proofs.lemmas.Bool.{eq-eqb, or_cases, or_parts}
+use Rattle.std.proofs.lemmas.Bool.{eq-eqb, or_cases, or_parts, not-false, not-true, and_parts, lt-ltb, ltb-true, eqb-true, or_right, or_left, not_from_false, and_from}
 use Rattle.ens_base.specs.Lists.{◌∈◌, AreDistinct, is_in, same_bytes}
 use Rattle.ens_base.proofs.Lists.{bytes_same, bytes_itself, in_tested, tested_in}
 use Rattle.register_model.specs.Histories.{IsDone, IsRefused, is_done, is_refused, StandsBefore, IsLegal}
@@ -11,28 +11,11 @@ use Rattle.register_model.specs.declared.call.Call.{Call}
 use Rattle.register_model.proofs.ReplyTests.{done_is, refused_is}
 use Rattle.register_runs.proofs.Runs.{stops_no_run}
 use Rattle.history_faults.specs.Clauses.{was_done, was_refused, was_done_before, is_call_on, ids_on, first_stray, is_amiss, first_amiss_in, first_amiss, is_late, first_late, KeepsThree, IsFault}
-use Rattle.history_faults.proofs.Lookups.{not_false, not_true, both, apart, less_test, tested_less, tested_same, item_any, any_item}
+use Rattle.history_faults.proofs.Lookups.{apart, item_any, any_item}
 
 if_none : (b : Bool) (x : ℕ) (o : Option ℕ) → (if b then Some x else o) ≡ None → (b ≡ false) × (o ≡ None)
 if_none true x o h = absurd cc
 if_none false x o h = (refl, h)
-
-and_both : (a b : Bool) → a ≡ true → b ≡ true → (a && b) ≡ true
-and_both true true h k = refl
-and_both true false h k = k
-and_both false b h k = h
-
-or_true : (a b : Bool) → b ≡ true → (a || b) ≡ true
-or_true true b h = refl
-or_true false b h = h
-
-first_true : (a b : Bool) → a ≡ true → (a || b) ≡ true
-first_true true b h = refl
-first_true false b h = absurd cc
-
-not_of : (b : Bool) → b ≡ false → not b ≡ true
-not_of true h = sym h
-not_of false h = refl
 
 module _ (calls : List Call) (answers : List Answer) (key : List ℕ) where
   -- ## What the tests mean
@@ -43,33 +26,33 @@ module _ (calls : List Call) (answers : List Answer) (key : List ℕ) where
   call_on : (id : ℕ) → is_call_on calls key id ≡ true → CallOn id
   call_on id h =
       let c = any_item (λ c. c.id == id && same_bytes c.key key) calls h in
-      let parts = both (c.0.id == id) (same_bytes c.0.key key) c.2 in
-      (c.0, c.1, tested_same c.0.id id parts.0, bytes_same c.0.key key parts.1)
+      let parts = and_parts (c.0.id == id) (same_bytes c.0.key key) c.2 in
+      (c.0, c.1, eqb-true c.0.id id parts.0, bytes_same c.0.key key parts.1)
 
   on_call : (id : ℕ) (c : Call) → c ∈ calls → c.id ≡ id → c.key ≡ key → is_call_on calls key id ≡ true
   on_call id c there named on =
       item_any (λ (d : Call). d.id == id && same_bytes d.key key) calls c there
-      (and_both (c.id == id) (same_bytes c.key key) (eq-eqb c.id id named) (subst (λ (k : List ℕ). same_bytes c.key k ≡ true) on (bytes_itself c.key)))
+      (and_from (c.id == id) (same_bytes c.key key) (eq-eqb c.id id named) (subst (λ (k : List ℕ). same_bytes c.key k ≡ true) on (bytes_itself c.key)))
 
   done_of : (id : ℕ) → was_done answers id ≡ true → (a : Answer) × (a ∈ answers) × (a.id ≡ id) × IsDone a.reply
   done_of id h =
       let a = any_item (λ a. a.id == id && is_done a.reply) answers h in
-      let parts = both (a.0.id == id) (is_done a.0.reply) a.2 in
-      (a.0, a.1, tested_same a.0.id id parts.0, (done_is a.0.reply).0 parts.1)
+      let parts = and_parts (a.0.id == id) (is_done a.0.reply) a.2 in
+      (a.0, a.1, eqb-true a.0.id id parts.0, (done_is a.0.reply).0 parts.1)
 
   of_done : (id : ℕ) (a : Answer) → a ∈ answers → a.id ≡ id → IsDone a.reply → was_done answers id ≡ true
   of_done id a there named done =
-      item_any (λ (b : Answer). b.id == id && is_done b.reply) answers a there (and_both (a.id == id) (is_done a.reply) (eq-eqb a.id id named) ((done_is a.reply).1 done))
+      item_any (λ (b : Answer). b.id == id && is_done b.reply) answers a there (and_from (a.id == id) (is_done a.reply) (eq-eqb a.id id named) ((done_is a.reply).1 done))
 
   refused_of : (id : ℕ) → was_refused answers id ≡ true → (a : Answer) × (a ∈ answers) × (a.id ≡ id) × IsRefused a.reply
   refused_of id h =
       let a = any_item (λ a. a.id == id && is_refused a.reply) answers h in
-      let parts = both (a.0.id == id) (is_refused a.0.reply) a.2 in
-      (a.0, a.1, tested_same a.0.id id parts.0, (refused_is a.0.reply).0 parts.1)
+      let parts = and_parts (a.0.id == id) (is_refused a.0.reply) a.2 in
+      (a.0, a.1, eqb-true a.0.id id parts.0, (refused_is a.0.reply).0 parts.1)
 
   of_refused : (id : ℕ) (a : Answer) → a ∈ answers → a.id ≡ id → IsRefused a.reply → was_refused answers id ≡ true
   of_refused id a there named refused =
-      item_any (λ (b : Answer). b.id == id && is_refused b.reply) answers a there (and_both (a.id == id) (is_refused a.reply) (eq-eqb a.id id named) ((refused_is a.reply).1 refused))
+      item_any (λ (b : Answer). b.id == id && is_refused b.reply) answers a there (and_from (a.id == id) (is_refused a.reply) (eq-eqb a.id id named) ((refused_is a.reply).1 refused))
 
   -- ## Clause 1
 
@@ -79,7 +62,7 @@ module _ (calls : List Call) (answers : List Answer) (key : List ℕ) where
       let parts = if_none (is_in rest x || not (is_call_on calls key x)) x (first_stray calls key rest) h in
       let tests = or_parts (is_in rest x) (not (is_call_on calls key x)) parts.0 in
       let later = stray_none rest parts.1 in
-      let on : (id : ℕ) → id ∈ (x ∷ rest) → is_call_on calls key id ≡ true = at (not_false (is_call_on calls key x) tests.1) later.1 in
+      let on : (id : ℕ) → id ∈ (x ∷ rest) → is_call_on calls key id ≡ true = at (not-false (is_call_on calls key x) tests.1) later.1 in
       ((λ there. apart (is_in rest x) (tested_in rest x there) tests.0, later.0), on)
     where
       at : is_call_on calls key x ≡ true → ((id : ℕ) → id ∈ rest → is_call_on calls key id ≡ true) → (id : ℕ) → id ∈ (x ∷ rest) → is_call_on calls key id ≡ true
@@ -141,16 +124,16 @@ module _ (calls : List Call) (answers : List Answer) (key : List ℕ) where
         by true e = in_tested order c.id e
         by false e =
             absurd (apart (is_amiss answers order c.id)
-            (first_true (was_done answers c.id && not (is_in order c.id)) (was_refused answers c.id && is_in order c.id)
-            (and_both (was_done answers c.id) (not (is_in order c.id)) (of_done c.id a given named done) (not_of (is_in order c.id) e))) none)
+            (or_left (was_done answers c.id && not (is_in order c.id)) (was_refused answers c.id && is_in order c.id)
+            (and_from (was_done answers c.id) (not (is_in order c.id)) (of_done c.id a given named done) (not_from_false (is_in order c.id) e))) none)
 
     refused : ((id : ℕ) → id ∈ order → is_call_on calls key id ≡ true) → (a : Answer) → a ∈ answers → IsRefused a.reply → ¬ (a.id ∈ order)
     refused on a given refuses there =
         let c = call_on a.id (on a.id there) in
         let among : a.id ∈ ids_on calls key = subst (λ (i : ℕ). i ∈ ids_on calls key) c.2 (ids_there calls c.0 c.1 c.3) in
         apart (is_amiss answers order a.id)
-        (or_true (was_done answers a.id && not (is_in order a.id)) (was_refused answers a.id && is_in order a.id)
-        (and_both (was_refused answers a.id) (is_in order a.id) (of_refused a.id a given refl refuses) (tested_in order a.id there)))
+        (or_right (was_done answers a.id && not (is_in order a.id)) (was_refused answers a.id && is_in order a.id)
+        (and_from (was_refused answers a.id) (is_in order a.id) (of_refused a.id a given refl refuses) (tested_in order a.id there)))
         (amiss_none order (ids_on calls key) fine a.id among)
 
   amiss_wrong : (order : List ℕ) (id : ℕ) → first_amiss calls answers key order ≡ Some id → ((c : Call) (a : Answer) → c ∈ calls → a ∈ answers → a.id ≡ c.id → c.key ≡ key → IsDone a.reply → c.id ∈ order)
@@ -162,12 +145,12 @@ module _ (calls : List Call) (answers : List Answer) (key : List ℕ) where
     where
       by : (c : Call) × (c ∈ calls) × (c.id ≡ id) × (c.key ≡ key) → ((was_done answers id && not (is_in order id)) ≡ true) ⊎ ((was_refused answers id && is_in order id) ≡ true) → ⊥
       by c (inl e) =
-          let parts = both (was_done answers id) (not (is_in order id)) e in
+          let parts = and_parts (was_done answers id) (not (is_in order id)) e in
           let a = done_of id parts.0 in
           let there : id ∈ order = subst (λ (i : ℕ). i ∈ order) c.2 (complete c.0 a.0 c.1 a.1 (a.2 ∙ sym c.2) c.3 a.3) in
-          apart (is_in order id) (tested_in order id there) (not_true (is_in order id) parts.1)
+          apart (is_in order id) (tested_in order id there) (not-true (is_in order id) parts.1)
       by c (inr e) =
-          let parts = both (was_refused answers id) (is_in order id) e in
+          let parts = and_parts (was_refused answers id) (is_in order id) e in
           let a = refused_of id parts.0 in
           refuse a.0 a.1 a.3 (subst (λ (i : ℕ). i ∈ order) (sym a.2) (in_tested order id parts.1))
 
@@ -177,9 +160,9 @@ module _ (calls : List Call) (answers : List Answer) (key : List ℕ) where
   late_test rest c a there given done before among =
       let earlier : was_done_before answers c.event a.id ≡ true =
       item_any (λ (b : Answer). b.id == a.id && (is_done b.reply && nat_lt b.event c.event)) answers a given
-      (and_both (a.id == a.id) (is_done a.reply && nat_lt a.event c.event) (eq-eqb a.id a.id refl) (and_both (is_done a.reply) (nat_lt a.event c.event) ((done_is a.reply).1 done) (less_test a.event c.event before))) in
+      (and_from (a.id == a.id) (is_done a.reply && nat_lt a.event c.event) (eq-eqb a.id a.id refl) (and_from (is_done a.reply) (nat_lt a.event c.event) ((done_is a.reply).1 done) (lt-ltb a.event c.event before))) in
       item_any (λ (d : Call). d.id == c.id && list_any (was_done_before answers d.event) rest) calls c there
-      (and_both (c.id == c.id) (list_any (was_done_before answers c.event) rest) (eq-eqb c.id c.id refl) (item_any (was_done_before answers c.event) rest a.id among earlier))
+      (and_from (c.id == c.id) (list_any (was_done_before answers c.event) rest) (eq-eqb c.id c.id refl) (item_any (was_done_before answers c.event) rest a.id among earlier))
 
   abbrev Late : List ℕ → ℕ → Type 0
   Late rest id = (c : Call) × (a : Answer) × (c ∈ calls) × (a ∈ answers) × (c.id ≡ id) × IsDone a.reply × (a.event < c.event) × (a.id ∈ rest)
@@ -187,12 +170,12 @@ module _ (calls : List Call) (answers : List Answer) (key : List ℕ) where
   tested_late : (rest : List ℕ) (id : ℕ) → is_late calls answers rest id ≡ true → Late rest id
   tested_late rest id h =
       let c = any_item (λ c. c.id == id && list_any (was_done_before answers c.event) rest) calls h in
-      let parts = both (c.0.id == id) (list_any (was_done_before answers c.0.event) rest) c.2 in
+      let parts = and_parts (c.0.id == id) (list_any (was_done_before answers c.0.event) rest) c.2 in
       let j = any_item (was_done_before answers c.0.event) rest parts.1 in
       let a = any_item (λ a. a.id == j.0 && (is_done a.reply && nat_lt a.event c.0.event)) answers j.2 in
-      let named = both (a.0.id == j.0) (is_done a.0.reply && nat_lt a.0.event c.0.event) a.2 in
-      let given = both (is_done a.0.reply) (nat_lt a.0.event c.0.event) named.1 in
-      (c.0, a.0, c.1, a.1, tested_same c.0.id id parts.0, (done_is a.0.reply).0 given.0, tested_less a.0.event c.0.event given.1, subst (λ (i : ℕ). i ∈ rest) (sym (tested_same a.0.id j.0 named.0)) j.1)
+      let named = and_parts (a.0.id == j.0) (is_done a.0.reply && nat_lt a.0.event c.0.event) a.2 in
+      let given = and_parts (is_done a.0.reply) (nat_lt a.0.event c.0.event) named.1 in
+      (c.0, a.0, c.1, a.1, eqb-true c.0.id id parts.0, (done_is a.0.reply).0 given.0, ltb-true a.0.event c.0.event given.1, subst (λ (i : ℕ). i ∈ rest) (sym (eqb-true a.0.id j.0 named.0)) j.1)
 
   at_place : (rest : List ℕ) (p id : ℕ) → slice_get rest p ≡ Some id → id ∈ rest
   at_place [] p id h = absurd cc

@@ -1,9 +1,8 @@
 -- Tests of the items of a list.
-use Rattle.std.proofs.Common.{◌≡◌, ◌≢◌, ℕ, ◌<◌, Bool, true, false, List, [], ◌∷◌, map, inl, inr, ◌⊎◌, refl, sym, ap, subst, ◌∙◌, arith}
-use Rattle.std.specs.Prelude.{◌==◌, ◌&&◌, ◌||◌, not, nat_lt}
+use Rattle.std.proofs.Common.{◌≡◌, ◌≢◌, ℕ, Bool, true, false, List, [], ◌∷◌, map, inl, inr, ◌⊎◌, refl, sym, ap, subst, ◌∙◌}
+use Rattle.std.specs.Prelude.{◌==◌, ◌&&◌, ◌||◌}
 use Rattle.std.specs.List.{list_any}
 use Rattle.std.proofs.lemmas.Bool.{eq-eqb, ne_eqb, or_cases, or_left, or_right}
-use Rattle.std.proofs.lemmas.Bool.Decides.{nat_tests}
 use Rattle.ens_base.specs.Lists.{◌∈◌, AreDistinct}
 use Rattle.ens_base.proofs.Lists.{in-map}
 
@@ -11,30 +10,9 @@ pub or_false : (b : Bool) → (b || false) ≡ b
 or_false true = refl
 or_false false = refl
 
-pub not_false : (b : Bool) → not b ≡ false → b ≡ true
-not_false true h = refl
-not_false false h = sym h
-
-pub not_true : (b : Bool) → not b ≡ true → b ≡ false
-not_true true h = sym h
-not_true false h = refl
-
-pub both : (a b : Bool) → (a && b) ≡ true → (a ≡ true) × (b ≡ true)
-both true b h = (refl, h)
-both false b h = absurd cc
-
 pub apart : (b : Bool) → b ≡ true → b ≡ false → ⊥
 apart true h k = cc
 apart false h k = cc
-
-pub less_test : (a b : ℕ) → a < b → nat_lt a b ≡ true
-less_test a b h = grind (arith, nat_tests)
-
-pub tested_less : (a b : ℕ) → nat_lt a b ≡ true → a < b
-tested_less a b h = grind (arith, nat_tests)
-
-pub tested_same : (a b : ℕ) → (a == b) ≡ true → a ≡ b
-tested_same a b h = grind (arith, nat_tests)
 
 -- an item that passes
 pub item_any : {A : Type 0} (test : A → Bool) (xs : List A) (x : A) → x ∈ xs → test x ≡ true → list_any test xs ≡ true

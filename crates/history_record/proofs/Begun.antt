@@ -1,23 +1,21 @@
 -- The reading of the schedule: so many lines, and calls of distinct ids.
-use Rattle.std.proofs.Common.{◌≡◌, ℕ, ◌+◌, ◌≤◌, Bool, true, false, List, [], ◌∷◌, length, map, Result, Ok, Err, refl, sym, ap, subst, arith}
-use Rattle.std.specs.Prelude.{◌==◌, nat_lt, if◌then◌else◌}
+use Rattle.std.proofs.Common.{◌≡◌, ℕ, ◌+◌, ◌≤◌, false, List, [], ◌∷◌, length, map, Ok, Err, refl, sym, ap, subst, arith}
+use Rattle.std.specs.Prelude.{◌==◌, nat_lt}
 use Rattle.std.proofs.lemmas.Bool.Decides.{nat_tests}
 use Rattle.std.proofs.lemmas.List.{length-append}
 use Rattle.ens_base.specs.Lists.{AreDistinct}
 use Rattle.schedule_words.specs.Causes.{or_cause}
 use Rattle.schedule_words.specs.Words.{words_of}
-use Rattle.schedule_words.specs.declared.cause.Cause.{Cause}
-use Rattle.schedule_words.specs.declared.cause.Cause.TheVariants.{TooLong, Heading, Repeated, Unfinished}
+use Rattle.schedule_words.specs.declared.cause.Cause.TheVariants.{Heading, Unfinished}
 use Rattle.schedule_words.proofs.Results.{bind_ok, ok_same}
 use Rattle.schedule_text.proofs.Ids.{distinct_with}
-use Rattle.schedule_text.specs.Errors.{at_line}
+use Rattle.schedule_text.proofs.SchedulesRead.{if_repeated, at_line_ok, unless_lines, bounded_err}
+use Rattle.schedule_text.proofs.EventsRead.{short_enough}
 use Rattle.schedule_text.specs.Events.{event_of, line_limit}
 use Rattle.schedule_text.specs.Forms.{form_named}
 use Rattle.schedule_text.specs.Progress.{Progress, Blank, Titled, Counted, Running, lines_so_far, is_repeated}
 use Rattle.schedule_text.specs.Reading.{at_next, bounded, ended, finished, most_lines, next_line, opening_of, peers_of, with_line}
 use Rattle.schedule_text.specs.Spelling.{call_ids}
-use Rattle.schedule_text.specs.declared.error.ScheduleError.{ScheduleError}
-use Rattle.schedule_text.specs.declared.error.ScheduleError.TheVariants.{Lines}
 use Rattle.schedule_text.specs.declared.event.ScheduleEvent.{ScheduleEvent}
 use Rattle.schedule_text.specs.declared.event.ScheduleEvent.TheVariants as line
 use Rattle.schedule_text.specs.declared.schedule.Schedule.{Schedule}
@@ -30,10 +28,6 @@ pub ids_of_calls : (n : ℕ) (events : List ScheduleEvent) → map (λ c. c.id) 
 ids_of_calls n [] = refl
 ids_of_calls n (line.Call peer id key command ∷ more) = ap (λ (ids : List ℕ). id ∷ ids) (ids_of_calls (n + 1) more)
 ids_of_calls n (_ ∷ more) = ids_of_calls (n + 1) more
-
-if_repeated : (b : Bool) (x y : Progress) → (if b then Err Repeated else Ok x) ≡ Ok y → (b ≡ false) × (x ≡ y)
-if_repeated true x y h = cc h
-if_repeated false x y h = (refl, ok_same h)
 
 -- one more line
 record Grows (p q : Progress) : Type 0 where
@@ -56,18 +50,6 @@ with_line-grows (Running form peers view events) q text h =
     subst (λ (r : Progress). Grows (Running form peers view events) r) once.1
     (record { more = omega (arith, length-append events (e.0 ∷ [])); distinct = λ d. distinct_with events e.0 d once.0 })
 
-at_line_ok : {A : Type 0} (n : ℕ) (r : Result A Cause) (x : A) → at_line n r ≡ Ok x → r ≡ Ok x
-at_line_ok n (Ok y) x h = let same : y ≡ x = cc h in ap Ok same
-at_line_ok n (Err e) x h = cc h
-
-unless_lines : {A : Type 0} (b : Bool) (r : Result A ScheduleError) (x : A) → (if b then Err Lines else r) ≡ Ok x → (b ≡ false) × (r ≡ Ok x)
-unless_lines true r x h = cc h
-unless_lines false r x h = (refl, h)
-
-unless_long : {A : Type 0} (b : Bool) (r : Result A Cause) (x : A) → (if b then Err TooLong else r) ≡ Ok x → r ≡ Ok x
-unless_long true r x h = cc h
-unless_long false r x h = h
-
 not_last : (n : ℕ) → (n == most_lines) ≡ false → n ≤ 200000 → n + 1 ≤ 200000
 not_last n h k = grind (arith, nat_tests)
 
@@ -75,7 +57,7 @@ grows_line : (p q : Progress) (text : List ℕ) → next_line p text ≡ Ok q �
 grows_line p q text h =
     let parts = unless_lines (lines_so_far p == most_lines) (at_next p (bounded text (with_line p text))) q h in
     let within = at_line_ok (lines_so_far p + 1) (bounded text (with_line p text)) q parts.1 in
-    with_line-grows p q text (unless_long (nat_lt line_limit (length text)) (with_line p text) q within)
+    with_line-grows p q text (short_enough (nat_lt line_limit (length text)) (with_line p text) q within)
 
 -- a line adds one to the count
 pub next_counts : (p q : Progress) (text : List ℕ) → next_line p text ≡ Ok q → lines_so_far q ≡ lines_so_far p + 1
@@ -100,13 +82,6 @@ finished-fit (Running form peers view events) s h begun =
       lines = let few : 3 + length events ≤ 200000 = begun.few in omega arith;
       calls = subst AreDistinct (sym (ids_of_calls 1 events)) begun.distinct;
     })
-
-bounded_err : {A : Type 0} (text : List ℕ) (cause : Cause) (x : A) → bounded text (Err cause) ≡ Ok x → ⊥
-bounded_err {A = A} text cause x h = by (nat_lt line_limit (length text)) h
-  where
-    by : (b : Bool) → (if b then Err TooLong else Err cause) ≡ Ok x → ⊥
-    by true h = cc h
-    by false h = cc h
 
 -- the schedule ends
 pub ended-fit : (p : Progress) (rest : List ℕ) (s : Schedule) → ended p rest ≡ Ok s → IsBegun p → IsFit s

@@ -6,13 +6,14 @@ use Rattle.std.specs.BTreeMap.{is_at}
 use Rattle.std.specs.Ordering.{nat_cmp}
 use Rattle.std.proofs.lemmas.Bool.{eq-eqb, ne_eqb}
 use Rattle.ens_base.specs.Lists.{◌∈◌, AreDistinct}
-use Rattle.ens_base.proofs.Lists.{in-map, in_append}
+use Rattle.ens_base.proofs.Lists.{in-map}
 use Rattle.register_model.specs.declared.answer.Answer.{Answer}
 use Rattle.register_model.specs.declared.call.Call.{Call}
 use Rattle.register_model.specs.declared.history.History.{History}
 use Rattle.schedule_text.specs.declared.event.ScheduleEvent.{ScheduleEvent}
 use Rattle.schedule_text.specs.declared.event.ScheduleEvent.TheVariants as line
 use Rattle.schedule_text.specs.declared.schedule.Schedule.{Schedule}
+use Rattle.schedule_text.proofs.Ids.{in_end}
 use Rattle.history_record.specs.Calls.{call_event, calls_from, change_peer}
 use Rattle.history_record.specs.Kept.{IsFit, IsKept, IsSound}
 use Rattle.history_record.specs.Telling.{Heard, is_answered, is_changed, nothing_heard}
@@ -61,14 +62,6 @@ closed_one false false o next e = e
 open_means : (b : Bool) (o : Option ℕ) (x : ℕ) → (if b then None else o) ≡ Some x → (b ≡ false) × (o ≡ Some x)
 open_means true o x h = absurd cc
 open_means false o x h = (refl, h)
-
-in_end : {A : Type 0} (x y : A) (xs : List A) → x ∈ (xs ++ y ∷ []) → (x ∈ xs) ⊎ (x ≡ y)
-in_end x y xs there = by (in_append xs (y ∷ []) x there)
-  where
-    by : (x ∈ xs) ⊎ (x ∈ (y ∷ [])) → (x ∈ xs) ⊎ (x ≡ y)
-    by (inl m) = inl m
-    by (inr (inl e)) = inr e
-    by (inr (inr m)) = absurd m
 
 map_end : {A B : Type 0} (f : A → B) (xs : List A) (x : A) → map f (xs ++ x ∷ []) ≡ map f xs ++ f x ∷ []
 map_end f [] x = refl

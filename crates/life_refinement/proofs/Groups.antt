@@ -1,6 +1,5 @@
 -- A group of peers is a run of the abstract protocol, and its histories are legal.
-use Rattle.std.proofs.Common.{◌≡◌, ◌<◌, ◌^◌, ℕ, true, suc, List, [], ◌∷◌, length, map, arith, refl, sym, subst, inl, inr}
-use Rattle.std.specs.Prelude.{Contains}
+use Rattle.std.proofs.Common.{◌≡◌, ◌<◌, ◌^◌, ℕ, true, List, [], ◌∷◌, length, map, refl, sym, subst, inl, inr}
 use Rattle.std.proofs.lemmas.List.{length-replicate}
 use Rattle.abstract_protocol.specs.Protocol.{State, opening}
 use Rattle.call_refinement.proofs.Agreement.{is_safe}
@@ -9,6 +8,7 @@ use Rattle.call_refinement.proofs.Histories.{order_legal}
 use Rattle.call_refinement.proofs.LegalHistories.{legal_fewer}
 use Rattle.call_refinement.proofs.OpeningWorld.{opening_holds}
 use Rattle.call_refinement.proofs.WorldGrammar.{opening_intact}
+use Rattle.call_refinement.proofs.ScheduleLaws.{in_contains}
 use Rattle.call_refinement.specs.Lines as schedule
 use Rattle.ens_base.specs.Lists.{◌∈◌, AreDistinct}
 use Rattle.joint_views.proofs.Majorities.{majority_of_quorum, quorum_of_all}
@@ -28,11 +28,6 @@ use Rattle.world_spec.specs.Runs.{Run, opening_mode}
 use Rattle.life_refinement.proofs.Lines.{lines_for, lines_many, calls_same, answers_same}
 use Rattle.life_refinement.proofs.Moments.{IsAt, all_over}
 use Rattle.life_refinement.specs.Laws.{lines_of, IsRunOfProtocol, AreLegal, WereGiven}
-
-in_contains : (strings : List (List ℕ)) (s : List ℕ) → s ∈ strings → Contains strings s
-in_contains [] s at = absurd at
-in_contains (x ∷ strings) s (inl same) = (0, omega arith, sym same)
-in_contains (x ∷ strings) s (inr at) = let there = in_contains strings s at in let within = there.1 in (suc there.0, omega (arith, within), there.2)
 
 -- every peer is firm, so of the view more than half are
 all_firm : (g : Group) → 0 < length g.view → AreFirm (lines_of g)

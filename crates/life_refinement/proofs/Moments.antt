@@ -1,8 +1,7 @@
 -- The agreement of a world with a run is carried through the moments of a group.
-use Rattle.std.proofs.Common.{◌≡◌, ◌<◌, ◌≤◌, ◌^◌, ◌+◌, ◌++◌, ℕ, zero, suc, Bool, true, false, nat_lt, ◌==◌, if◌then◌else◌, List, [], ◌∷◌, length, map, Option, None, Some, slice_get, slice_set, arith, append-nil, refl, sym, ap, ◌∙◌, subst, inl, inr}
+use Rattle.std.proofs.Common.{◌≡◌, ◌<◌, ◌≤◌, ◌^◌, ◌+◌, ◌++◌, ℕ, suc, Bool, true, false, nat_lt, ◌==◌, if◌then◌else◌, List, [], ◌∷◌, length, map, Option, None, Some, slice_get, slice_set, arith, append-nil, refl, sym, ap, ◌∙◌, subst, inl, inr}
 use Rattle.std.proofs.lemmas.List.{append_assoc, length-append, length-set}
 use Rattle.std.proofs.lemmas.Bool.Decides.{nat_tests}
-use Rattle.std.proofs.lemmas.Option.{none-some}
 use Rattle.abstract_protocol.specs.Book.{MayCall}
 use Rattle.abstract_protocol.specs.Protocol.{State, Step, Begin, Ask, happens, state_after}
 use Rattle.call_refinement.proofs.Agreement.{Stands, carried}
@@ -12,7 +11,7 @@ use Rattle.call_refinement.proofs.Schedules.{TakesStep, GoesAlong, Changes, IsCa
 use Rattle.call_refinement.proofs.Schedules as along
 use Rattle.call_refinement.proofs.StepsInWorlds.{StepGoes, called_goes, own_fits, renewed}
 use Rattle.call_refinement.proofs.WorldGrammar.{IsIntact, IsHarmless, alike_intact, changed_intact, frame_comes, is_peer, started_intact, stopped_harmless, taken_intact}
-use Rattle.call_refinement.proofs.ChangedNodes.{frame_at}
+use Rattle.call_refinement.proofs.ChangedNodes.{frame_at, set_same}
 use Rattle.call_refinement.specs.Lines.{BookAgrees, Within, Opens, calls_from, call_at}
 use Rattle.call_refinement.specs.Roles.{roles_of, said_in}
 use Rattle.call_refinement.specs.Worlds.{NodeFits, WorldHolds}
@@ -43,31 +42,20 @@ use Rattle.tree_refinement.specs.HeldStores.{HeldStores}
 use Rattle.tree_refinement.specs.PeerPlan.{MayCome}
 use Rattle.tree_refinement.specs.Trees.{AreAmong, AreFree}
 use Rattle.wire_frames.specs.declared.frame.Frame.{Frame}
-use Rattle.world_spec.proofs.Growth.{IsFurther, further_same, further_later, stepped_grows}
+use Rattle.world_spec.proofs.Growth.{IsFurther, further_same, further_later, stepped_grows, changed_at_grows, start_grows}
 use Rattle.world_spec.specs.Lines.{counted}
-use Rattle.world_spec.specs.Nodes.{Node, Up, Down, taken, started, hashed_by_start, stopped}
+use Rattle.world_spec.specs.Nodes.{Node, Up, Down, taken, started, stopped}
 use Rattle.world_spec.specs.Runs.{Run, next_event, place_of, with_taken, stepped_at, stepped, changed_at, changed, start_strings, hashing, mode_at, with_start}
 use Rattle.life_refinement.proofs.Found.{found_holds}
 use Rattle.life_refinement.proofs.Lines.{line_of, lines_for}
 
 -- ## Worlds grow
 
-changed_grows : (o : Option Node) (p : ℕ) (change : Node → Node) (w : Run) → IsFurther w (changed_at o p change w)
-changed_grows None p change w = further_same w
-changed_grows (Some node) p change w = record { sent = omega arith; hashed = ([], sym (append-nil w.hashed)) }
-
-start_grows : (p : ℕ) (w : Run) → IsFurther w (with_start p w)
-start_grows p w = by (slice_get w.nodes (place_of p))
-  where
-    by : (o : Option Node) → IsFurther w (hashing (start_strings (mode_at p w) w.view o) (changed_at o p (started (mode_at p w) w.view) w))
-    by None = record { sent = omega arith; hashed = ([], refl) }
-    by (Some node) = record { sent = omega arith; hashed = (hashed_by_start (mode_at p w) w.view node, refl) }
-
 -- a moment removes no message and no string
 happened_grows : (m : Moment) (w : Run) → IsFurther w (happened m w)
-happened_grows (Starts p found) w = let v = changed p (down_on found) w in further_later w v (with_start p v) (changed_grows (slice_get w.nodes (place_of p)) p (down_on found) w) (start_grows p v)
+happened_grows (Starts p found) w = let v = changed p (down_on found) w in further_later w v (with_start p v) (changed_at_grows (slice_get w.nodes (place_of p)) p (down_on found) w) (start_grows p v)
 happened_grows (Takes p event) w = stepped_grows p event w
-happened_grows (IsCutOff p) w = changed_grows (slice_get w.nodes (place_of p)) p stopped w
+happened_grows (IsCutOff p) w = changed_at_grows (slice_get w.nodes (place_of p)) p stopped w
 
 after_grows : (m : Moment) (w : Run) → IsFurther w (after m w)
 after_grows m w = let far = happened_grows m w in record { sent = far.sent; hashed = far.hashed }
@@ -78,11 +66,6 @@ run_grows [] w = further_same w
 run_grows (m ∷ ms) w = further_later w (after m w) (run_on ms (after m w)) (after_grows m w) (run_grows ms (after m w))
 
 -- ## Places
-
-set_get : {A : Type 0} (xs : List A) (p : ℕ) (y m : A) → slice_get xs p ≡ Some m → slice_get (slice_set xs p y) p ≡ Some y
-set_get [] p y m is = absurd (none-some m is)
-set_get (x ∷ xs) zero y m is = refl
-set_get (x ∷ xs) (suc p) y m is = set_get xs p y m is
 
 -- a frame that was sent has a number
 sent_at : (fs : List Frame) (f : Frame) → f ∈ fs → (n : ℕ) × (slice_get fs n ≡ Some f)
@@ -339,7 +322,7 @@ module _ (peers : ℕ) (view : List ℕ) (lines : Lines) (strings : List (List �
           changed_is = ap (λ (o : Option Node). changed_at o p (down_on found) w) at
 
           at_v : slice_get v.nodes (place_of p) ≡ Some node
-          at_v = set_get w.nodes (place_of p) node (Down stores) at
+          at_v = set_same w.nodes (place_of p) node (Down stores) at
 
           start_is : with_start p v ≡ after_start p node v
           start_is = ap (λ (o : Option Node). hashing (start_strings (mode_at p v) v.view o) (changed_at o p (started (mode_at p v) v.view) v)) at_v

@@ -5,7 +5,7 @@ use Rattle.std.proofs.Common.{◌≡◌, ◌≤◌, ◌∙◌, ap, sym, subst, r
 use Rattle.ens_base.specs.Causes.{Rose}
 use Rattle.ens_base.specs.declared.peer_words.PeerWords.{PeerWords}
 use Rattle.ens_outside.specs.Links.{LinkCounts, Looks}
-use Rattle.ens_outside.specs.Told.{StaysTold, bytes_of}
+use Rattle.ens_outside.specs.Told.{bytes_of}
 use Rattle.ens_outside.specs.declared.errors.LinkError.{LinkError}
 use Rattle.ens_outside.specs.declared.errors.LinkError.TheVariants as links
 use Rattle.peer_plan.specs.Drives.{MayCome}
@@ -43,10 +43,6 @@ found_no_event w bytes f spelled none = ignored w bytes (ap (event_on w) spelled
 
 pub found_event : (w : PeerWords) (bytes : List ℕ) (f : Frame) (event : Event) → frame_of bytes ≡ Ok f → Some event ≡ event_in w f → MayCome w.me event × ComesFrom is_client event → IsFound w (Some bytes) (found.Taken event)
 found_event w bytes f event spelled some may = (ap (event_on w) spelled ∙ sym some, may.0, may.1)
-
-pub told_grew : {A : Type 0} (old new : Option (List A)) → StaysTold old new → Grew old new []
-told_grew None new stays = tt
-told_grew (Some xs) new stays = stays ∙ ap (λ (l : List _). Some l) (sym (append-nil xs))
 
 -- the given looks, after one look, and after one that failed
 given_once : (old new : Option (List (Option (List ℕ)))) (o : Option (Vec ℕ Global)) → Looks old new (Ok o) → Grew old new (bytes_of o ∷ [])

@@ -97,9 +97,3 @@ refuses_later a b s t read.Memory on bad = tt
 pub reads_first : (a : Option (List ℕ)) (s : Stage) → ReadsOn a s (prepend_known [] a) s
 reads_first None s = tt
 reads_first (Some x) s = refl
-
--- if nothing is pending or left, nothing is left
-pub ended_left : (pending : List ℕ) (left : Option (List ℕ)) → IsAtEnd (prepend_known pending left) → IsAtEnd left
-ended_left pending None h = tt
-ended_left [] (Some y) h = h
-ended_left (x ∷ pending) (Some y) h = let never : x ∷ (pending ++ y) ≡ [] = h in absurd cc

@@ -9,6 +9,9 @@ use Rattle.schedule_text.specs.Events.{line_limit}
 use Rattle.schedule_text.specs.Reading.{bounded, most_lines}
 use Rattle.schedule_text.specs.declared.error.ScheduleError.{ScheduleError}
 use Rattle.schedule_text.specs.declared.error.ScheduleError.TheVariants.{Bad, Lines}
+use Rattle.schedule_text.proofs.EventsRead.{short_enough}
+use Rattle.schedule_text.proofs.SchedulesRead.{at_line_ok}
+use Rattle.schedule_input.proofs.Parts.{too_long}
 
 -- what is read of the line behind so many
 abbrev behind : {A : Type 0} → ℕ → Result A Cause → Result A ScheduleError
@@ -18,13 +21,6 @@ behind count read = if count == most_lines then Err Lines else at_line (count + 
 pub record IsNumbered {P S : Type 0} (count : P → ℕ) (with_line : P → List ℕ → Result P Cause) (next : P → List ℕ → Result P ScheduleError) (end : P → List ℕ → Result S ScheduleError) : Type 0 where
   pub line : (p : P) (t : List ℕ) → next p t ≡ behind (count p) (bounded t (with_line p t))
   pub rest : (p : P) (byte : ℕ) (more : List ℕ) → end p (byte ∷ more) ≡ behind (count p) (bounded (byte ∷ more) (Err Unfinished))
-
-too_long : {A : Type 0} (t : List ℕ) (r : Result A Cause) → 4400 < length t → bounded t r ≡ Err TooLong
-too_long t r long = by_test (nat_lt line_limit (length t)) (grind (arith, nat_tests, long))
-  where
-    by_test : (b : Bool) → b ≡ true → (if b then Err TooLong else r) ≡ Err TooLong
-    by_test true e = refl
-    by_test false e = absurd cc
 
 behind_long : {A : Type 0} (n : ℕ) (t : List ℕ) (r : Result A Cause) → 4400 < length t → behind n (bounded t r) ≡ behind n (Err TooLong)
 behind_long {A} n t r long = ap (λ (x : Result A Cause). behind n x) (too_long t r long)
@@ -40,17 +36,9 @@ behind_last n r last = by_test (n == most_lines) (grind (arith, nat_tests, last)
     by_test true e = refl
     by_test false e = absurd cc
 
-from_bounds : {A : Type 0} (b : Bool) (r : Result A Cause) (x : A) → (if b then Err TooLong else r) ≡ Ok x → r ≡ Ok x
-from_bounds true r x h = absurd cc
-from_bounds false r x h = h
-
-from_line : {A : Type 0} (n : ℕ) (r : Result A Cause) (x : A) → at_line n r ≡ Ok x → r ≡ Ok x
-from_line n (Ok y) x h = cc
-from_line n (Err c) x h = absurd cc
-
 from_behind : {A : Type 0} (n : ℕ) (b : Bool) (r : Result A Cause) (x : A) → (if b then Err Lines else at_line (n + 1) r) ≡ Ok x → r ≡ Ok x
 from_behind n true r x h = absurd cc
-from_behind n false r x h = from_line (n + 1) r x h
+from_behind n false r x h = at_line_ok (n + 1) r x h
 
 module _ {P S : Type 0} {count : P → ℕ} {with_line : P → List ℕ → Result P Cause} {next : P → List ℕ → Result P ScheduleError} {end : P → List ℕ → Result S ScheduleError} (numbered : IsNumbered count with_line next end) where
   -- a long line is rejected as another one, whatever its bytes are
@@ -70,11 +58,11 @@ module _ {P S : Type 0} {count : P → ℕ} {with_line : P → List ℕ → Resu
   -- a line that is taken
   pub line_taken : (p q : P) (t : List ℕ) → next p t ≡ Ok q → with_line p t ≡ Ok q
   line_taken p q t ok =
-      from_bounds (nat_lt line_limit (length t)) (with_line p t) q (from_behind (count p) (count p == most_lines) (bounded t (with_line p t)) q (sym (numbered.line p t) ∙ ok))
+      short_enough (nat_lt line_limit (length t)) (with_line p t) q (from_behind (count p) (count p == most_lines) (bounded t (with_line p t)) q (sym (numbered.line p t) ∙ ok))
 
   -- a text ends well only after a line feed
   pub end_after_feed : (p : P) (rest : List ℕ) (s : S) → end p rest ≡ Ok s → end p [] ≡ Ok s
   end_after_feed p [] s ok = ok
   end_after_feed p (byte ∷ more) s ok =
-      let none : Err Unfinished ≡ Ok s = from_bounds (nat_lt line_limit (length (byte ∷ more))) (Err Unfinished) s (from_behind (count p) (count p == most_lines) (bounded (byte ∷ more) (Err Unfinished)) s (sym (numbered.rest p byte more) ∙ ok)) in
+      let none : Err Unfinished ≡ Ok s = short_enough (nat_lt line_limit (length (byte ∷ more))) (Err Unfinished) s (from_behind (count p) (count p == most_lines) (bounded (byte ∷ more) (Err Unfinished)) s (sym (numbered.rest p byte more) ∙ ok)) in
       absurd (cc none)

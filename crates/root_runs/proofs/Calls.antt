@@ -1,8 +1,7 @@
 -- The calls of the ensembles are those of the script.
-use Rattle.std.proofs.Common.{◌≡◌, ℕ, zero, suc, ◌+◌, ◌<◌, ◌≤◌, ◌==◌, ◌⊎◌, inl, inr, Bool, true, false, if◌then◌else◌, List, [], ◌∷◌, map, drop, refl, sym, ap, subst, ◌∙◌, arith}
-use Rattle.std.proofs.lemmas.Bool.Decides.{nat_tests}
+use Rattle.std.proofs.Common.{◌≡◌, ℕ, zero, suc, ◌+◌, ◌≤◌, ◌==◌, inl, inr, Bool, true, false, if◌then◌else◌, List, [], ◌∷◌, map, drop, refl, sym, ap, subst, ◌∙◌, arith}
+use Rattle.std.proofs.lemmas.Bool.{eqb-true}
 use Rattle.ens_base.specs.Lists.{◌∈◌, AreDistinct}
-use Rattle.ens_base.specs.declared.command.Command.{Command}
 use Rattle.ens_base.specs.declared.command.Command.TheVariants.{Get, PutOnce}
 use Rattle.ens_fields.specs.Views.{view_spelling}
 use Rattle.history_record.specs.Calls.{call_at}
@@ -10,12 +9,11 @@ use Rattle.register_model.specs.declared.call.Call.{Call}
 use Rattle.schedule_text.specs.declared.event.ScheduleEvent.{ScheduleEvent}
 use Rattle.schedule_text.specs.declared.event.ScheduleEvent.TheVariants as schedule
 use Rattle.root_script.specs.Spelling.{AllMayStand, MayFollowAt, ids_of}
-use Rattle.root_script.specs.declared.slots.Ensemble.{Ensemble}
 use Rattle.root_script.specs.declared.slots.Ensemble.TheVariants.{Root, Slot}
 use Rattle.root_script.specs.declared.event.RootEvent.{RootEvent}
 use Rattle.root_script.specs.declared.event.RootEvent.TheVariants.{At, Open, Look, Route}
 use Rattle.root_runs.specs.Legal.{routed_calls_from, slot_calls_from}
-use Rattle.root_runs.specs.Lines.{Line, ensemble_of, lines_from, own_event, same_ensemble}
+use Rattle.root_runs.specs.Lines.{Line, lines_from}
 use Rattle.root_runs.specs.Slots.{slot_key, slot_of}
 use Rattle.root_runs.proofs.Lines.{Ascend, line_calls}
 
@@ -38,9 +36,6 @@ root_calls peers n (Look peer id slot ∷ more) h =
     ap (λ (cs : List Call). first ∷ cs) (root_calls peers (n + 1) more h.1)
 root_calls peers n (Route peer id key command ∷ more) h = root_calls peers (n + 1) more h.1
 
-same_slot : (s t : ℕ) → (s == t) ≡ true → s ≡ t
-same_slot s t h = grind (arith, nat_tests)
-
 -- those of a slot are the calls that are routed to it
 pub slot_calls : (peers n slot : ℕ) (events : List RootEvent) (c : Call) → AllMayStand peers events → c ∈ line_calls (lines_from n (Slot slot) events) → (c ∈ routed_calls_from n events) × (slot_of c.key ≡ slot)
 slot_calls peers n slot [] c h m = absurd m
@@ -61,7 +56,7 @@ slot_calls peers n slot (Route peer id key command ∷ more) c h m = by (slot_of
         → c ∈ line_calls (if b then record { number = n; event = schedule.Call peer id key command } ∷ lines_from (n + 1) (Slot slot) more else lines_from (n + 1) (Slot slot) more)
         → (c ∈ line_calls (lines_from (n + 1) (Slot slot) more) → (c ∈ routed_calls_from (n + 1) more) × (slot_of c.key ≡ slot))
         → (c ∈ routed_calls_from n (Route peer id key command ∷ more)) × (slot_of c.key ≡ slot)
-    by true e (inl is) later = (inl is, ap (λ (d : Call). slot_of d.key) is ∙ same_slot (slot_of key) slot e)
+    by true e (inl is) later = (inl is, ap (λ (d : Call). slot_of d.key) is ∙ eqb-true (slot_of key) slot e)
     by true e (inr k) later = let there = later k in (inr there.0, there.1)
     by false e k later = let there = later k in (inr there.0, there.1)
 

@@ -1,7 +1,7 @@
 -- The run of a script goes line by line.
-use Rattle.std.proofs.Common.{◌≡◌, ℕ, zero, suc, ◌+◌, ◌<◌, ◌≤◌, ◌^◌, ◌==◌, ◌⊎◌, inl, inr, nat_lt, Bool, true, false, if◌then◌else◌, List, [], ◌∷◌, ◌++◌, length, map, drop, Option, Some, None, refl, sym, ap, subst, ◌∙◌, append_assoc, append-nil, length-append, arith}
-use Rattle.std.specs.Prelude.{filter, find}
-use Rattle.std.proofs.lemmas.Bool.Decides.{nat_tests}
+use Rattle.std.proofs.Common.{◌≡◌, ℕ, zero, suc, ◌+◌, ◌<◌, ◌≤◌, ◌^◌, ◌==◌, ◌⊎◌, inl, inr, Bool, true, false, if◌then◌else◌, List, [], ◌∷◌, ◌++◌, length, map, drop, Option, Some, None, refl, sym, ap, subst, ◌∙◌, append_assoc, append-nil, length-append, arith}
+use Rattle.std.specs.Prelude.{filter}
+use Rattle.std.proofs.lemmas.Bool.{eq-eqb, eqb-true, le-ltb, lt-ltb}
 use Rattle.ens_base.specs.Lists.{◌∈◌}
 use Rattle.history_laws.specs.Parts.{numbered_answer}
 use Rattle.register_model.specs.declared.answer.Answer.{Answer}
@@ -15,30 +15,18 @@ use Rattle.root_script.specs.declared.event.RootEvent.TheVariants.{At, Open, Loo
 use Rattle.root_script.specs.declared.script.RootScript.{RootScript}
 use Rattle.root_script.specs.declared.slots.Ensemble.{Ensemble}
 use Rattle.root_script.specs.declared.slots.Ensemble.TheVariants.{Root, Slot}
-use Rattle.root_runs.specs.Lines.{Line, ensemble_of, events_of, lines_behind, lines_from, number_of, own_event, same_ensemble}
+use Rattle.root_runs.specs.Lines.{Line, ensemble_of, events_of, lines_from, number_of, own_event, same_ensemble}
 use Rattle.root_runs.specs.Openings.{Opening, opening_in, or_later, told_by, view_at, view_in}
 use Rattle.root_runs.specs.Runs.{RootPrinted, by, ensemble_printed, is_at, lines_of, lines_with, numbered, opening_of, opens_before, outside, printed_at, printed_from, printed_of, root_lines, story_with, told_of, unrouted}
 use Rattle.root_runs.specs.Slots.{slot_of}
 use Rattle.root_runs.specs.Steps.{Branch, GrowByLine, Roots, at_first, in_ensemble, in_root, in_slot, open_lines, open_slot, open_told, opened_at, printed_next, refusal, roots_after, said, step, steps}
 use Rattle.root_runs.specs.Worlds.{Worlds, answers_in}
 use Rattle.root_runs.proofs.Sources.{answers_told}
-use Rattle.root_runs.proofs.Told.{From, Without, answers_append, line_elsewhere, line_here, lines_append, lines_few, lines_from_on, map_append, told_append, told_behind, told_is, told_late, told_none, told_one, without_above, without_below}
+use Rattle.root_runs.proofs.Told.{answers_append, line_elsewhere, line_here, lines_append, lines_few, lines_from_on, map_append, told_append, told_behind, told_is, told_late, told_none, told_one, without_above, without_below}
 
 -- ---- numbers and slots
 
-eq_yes : (m n : ℕ) → m ≡ n → (m == n) ≡ true
-eq_yes m n h = grind (arith, nat_tests, h)
-
-eq_from : (m n : ℕ) → (m == n) ≡ true → m ≡ n
-eq_from m n h = grind (arith, nat_tests)
-
-not_less : (m n : ℕ) → n ≤ m → nat_lt m n ≡ false
-not_less m n h = grind (arith, nat_tests, h)
-
-is_less : (m n : ℕ) → m < n → nat_lt m n ≡ true
-is_less m n h = grind (arith, nat_tests, h)
-
-drop_append : {A : Type 0} (n : ℕ) (xs ys : List A) → n ≤ length xs → drop n (xs ++ ys) ≡ drop n xs ++ ys
+pub drop_append : {A : Type 0} (n : ℕ) (xs ys : List A) → n ≤ length xs → drop n (xs ++ ys) ≡ drop n xs ++ ys
 drop_append zero xs ys h = refl
 drop_append (suc n) [] ys h = absurd (omega arith)
 drop_append (suc n) (x ∷ xs) ys h = drop_append n xs ys (omega arith)
@@ -135,7 +123,7 @@ told_opens number slot (Some (other, view)) w = by (other == slot) refl
     own : (b : Option Branch) → w.slots slot ≡ b → or_else (opened_at (w.slots slot)) (Some opening) ≡ opened_at ((open_slot number slot view b w).slots slot)
     own (Some b) is = ap (λ (x : Option Branch). or_else (opened_at x) (Some opening)) is ∙ sym (ap opened_at is)
     own None is =
-        let here : (slot == slot) ≡ true = eq_yes slot slot refl in
+        let here : (slot == slot) ≡ true = eq-eqb slot slot refl in
         ap (λ (x : Option Branch). or_else (opened_at x) (Some opening)) is ∙ sym (ap (λ (b : Bool). opened_at (if b then Some fresh else w.slots slot)) here)
 
     -- another one
@@ -145,7 +133,7 @@ told_opens number slot (Some (other, view)) w = by (other == slot) refl
 
     by : (b : Bool) → (other == slot) ≡ b → or_else (opened_at (w.slots slot)) (or_later number (if other == slot then Some view else None) None) ≡ opened_at ((open_slot number other view (w.slots other) w).slots slot)
     by true e =
-        let same : other ≡ slot = eq_from other slot e in
+        let same : other ≡ slot = eqb-true other slot e in
         let At : ℕ → Type 0 = λ k. or_else (opened_at (w.slots slot)) (Some opening) ≡ opened_at ((open_slot number k view (w.slots k) w).slots slot) in
         ap (λ (b : Bool). or_else (opened_at (w.slots slot)) (or_later number (if b then Some view else None) None)) e ∙ subst At (sym same) (own (w.slots slot) refl)
     by false e =
@@ -308,7 +296,7 @@ module _ (worlds : Worlds) (s : RootScript) (growing : GrowByLine worlds) (bound
           kept : (t : ℕ) (b : Branch) → w.slots t ≡ Some b → (c : Bool) → (slot == t) ≡ c
               → (b.opening.event ≤ length (done ++ x ∷ [])) × (b.events ≡ events_of (lines_from (b.opening.event + 1) (Slot t) (drop b.opening.event (done ++ x ∷ []))))
           kept t b there true e =
-              let shut : w.slots t ≡ None = ap w.slots (sym (eq_from slot t e)) ∙ none in
+              let shut : w.slots t ≡ None = ap w.slots (sym (eqb-true slot t e)) ∙ none in
               absurd (cc (shut, there))
           kept t b there false e = stays t b e there
       by (Some old) shows = record { root = root; opens = λ t. opens t ∙ sym (kept_opening t (slot == t) refl); branches = λ t b there. branch t b (slot == t) refl there }
@@ -317,7 +305,7 @@ module _ (worlds : Worlds) (s : RootScript) (growing : GrowByLine worlds) (bound
           grown = record old { events = old.events ++ own_event x ∷ [] }
 
           kept_opening : (t : ℕ) (c : Bool) → (slot == t) ≡ c → opened_at (if c then Some grown else w.slots t) ≡ opened_at (w.slots t)
-          kept_opening t true e = sym (ap opened_at (ap w.slots (sym (eq_from slot t e)) ∙ shows))
+          kept_opening t true e = sym (ap opened_at (ap w.slots (sym (eqb-true slot t e)) ∙ shows))
           kept_opening t false e = refl
 
           branch : (t : ℕ) (b : Branch) (c : Bool) → (slot == t) ≡ c → (if c then Some grown else w.slots t) ≡ Some b
@@ -325,9 +313,9 @@ module _ (worlds : Worlds) (s : RootScript) (growing : GrowByLine worlds) (bound
           branch t b false e there = stays t b e there
           branch t b true e there =
               let same : grown ≡ b = cc there in
-              let slots : slot ≡ t = eq_from slot t e in
+              let slots : slot ≡ t = eqb-true slot t e in
               let was = h.branches slot old shows in
-              let here : same_ensemble (ensemble_of x) (Slot slot) ≡ true = ap (λ (k : Ensemble). same_ensemble k (Slot slot)) is ∙ eq_yes slot slot refl in
+              let here : same_ensemble (ensemble_of x) (Slot slot) ≡ true = ap (λ (k : Ensemble). same_ensemble k (Slot slot)) is ∙ eq-eqb slot slot refl in
               let Is : ℕ → Branch → Type 0 = λ u y. (y.opening.event ≤ length (done ++ x ∷ [])) × (y.events ≡ events_of (lines_from (y.opening.event + 1) (Slot u) (drop y.opening.event (done ++ x ∷ [])))) in
               let mine : Is slot grown = (omega (arith, was.0, size), ap (λ (l : List ScheduleEvent). l ++ own_event x ∷ []) was.1 ∙ sym (behind_more old.opening.event slot done x was.0 here)) in
               subst (λ (u : ℕ). Is u b) slots (subst (λ (y : Branch). Is slot y) same mine)
@@ -437,7 +425,7 @@ module _ (worlds : Worlds) (s : RootScript) (growing : GrowByLine worlds) (bound
       → printed_at worlds s (length done + 1) x ≡ said (length done + 1) (Slot slot) (printed_next worlds s.peers b.opening.view b.events (own_event x))
   open_printed done x rest w slot b are is h shows =
       ap (λ (e : Ensemble). map (by e) (filter (is_at m) (ensemble_printed worlds s e) ++ outside worlds s m x)) is
-      ∙ ap (λ (ps : List Printed). map (by (Slot slot)) (filter (is_at m) (ensemble_printed worlds s (Slot slot)) ++ ps)) (outside_open m slot x is (ap (opens_before m) opened ∙ is_less b.opening.event m (omega (arith, was.0))))
+      ∙ ap (λ (ps : List Printed). map (by (Slot slot)) (filter (is_at m) (ensemble_printed worlds s (Slot slot)) ++ ps)) (outside_open m slot x is (ap (opens_before m) opened ∙ lt-ltb b.opening.event m (omega (arith, was.0))))
       ∙ ap (map (by (Slot slot))) (append-nil (filter (is_at m) (ensemble_printed worlds s (Slot slot)))) ∙ ap (λ (o : Option Opening). map (by (Slot slot)) (filter (is_at m) (own_printed (Slot slot) o))) opened
       ∙ ap (λ (d : List RootEvent). map (by (Slot slot)) (filter (is_at m) (told_of (lines_from (b.opening.event + 1) (Slot slot) d) (worlds s.peers b.opening.view (events_of (lines_from (b.opening.event + 1) (Slot slot) d)))))) behind
       ∙ ap (map (by (Slot slot))) (told_at (b.opening.event + 1) (Slot slot) b.opening.view (drop b.opening.event done) x rest m same number (subst (λ (d : List RootEvent). length d ≤ length s.events) behind (dropped b.opening.event s.events)))
@@ -450,7 +438,7 @@ module _ (worlds : Worlds) (s : RootScript) (growing : GrowByLine worlds) (bound
       was = h.branches slot b shows
 
       same : same_ensemble (ensemble_of x) (Slot slot) ≡ true
-      same = ap (λ (e : Ensemble). same_ensemble e (Slot slot)) is ∙ eq_yes slot slot refl
+      same = ap (λ (e : Ensemble). same_ensemble e (Slot slot)) is ∙ eq-eqb slot slot refl
 
       opened : opening_of worlds s (Slot slot) ≡ Some b.opening
       opened = split_opens done (x ∷ rest) w slot are h ∙ ap (λ (o : Option Branch). or_else (opened_at o) (opening_in s.events slot (later_told done (x ∷ rest)))) shows
@@ -481,7 +469,7 @@ module _ (worlds : Worlds) (s : RootScript) (growing : GrowByLine worlds) (bound
           let late : m ≤ o.event = later_opens done (x ∷ rest) slot o (sym e) in
           let lines : List Line = lines_from (o.event + 1) (Slot slot) (drop o.event s.events) in (
             ap (filter (is_at m)) (told_is worlds s.peers o.view growing lines (few_lines (o.event + 1) (Slot slot) (drop o.event s.events) (dropped o.event s.events))) ∙ told_none worlds s.peers o.view m [] lines (without_above m (o.event + 1) (Slot slot) (drop o.event s.events) (omega arith)),
-            not_less o.event m late,
+            le-ltb o.event m late,
           )
 
   -- ---- one line after another

@@ -1,8 +1,8 @@
 -- The histories of a script are legal, and each slot has one view.
-use Rattle.std.proofs.Common.{◌≡◌, ℕ, ◌+◌, ◌≤◌, inl, inr, List, [], ◌∷◌, length, map, drop, Option, Some, None, refl, sym, ap, subst, ◌∙◌, arith}
+use Rattle.std.proofs.Common.{◌≡◌, ℕ, ◌+◌, inl, inr, List, [], ◌∷◌, length, map, drop, Option, Some, None, sym, ap, subst, ◌∙◌, arith}
 use Rattle.ens_base.specs.Lists.{◌∈◌}
-use Rattle.history_laws.specs.Openings.{AreOpenings, HaveOneValue, IsOpening}
-use Rattle.history_laws.specs.Parts.{ArePart, RiseWith, numbered_answer, numbered_call}
+use Rattle.history_laws.specs.Openings.{HaveOneValue, IsOpening}
+use Rattle.history_laws.specs.Parts.{ArePart, numbered_answer}
 use Rattle.history_laws.proofs.Numbered.{numbered_legal}
 use Rattle.history_laws.proofs.Openings.{one_value}
 use Rattle.history_laws.proofs.Parts.{legal_among}

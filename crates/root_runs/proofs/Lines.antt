@@ -1,7 +1,7 @@
 -- The lines of one ensemble: their calls, and their numbers in the script.
-use Rattle.std.proofs.Common.{◌≡◌, inl, inr, ℕ, zero, suc, ◌+◌, ◌-◌, ◌<◌, ◌≤◌, ◌==◌, Bool, true, false, if◌then◌else◌, List, [], ◌∷◌, length, map, drop, slice_index, refl, sym, ap, subst, ◌∙◌, arith}
+use Rattle.std.proofs.Common.{◌≡◌, inl, inr, ℕ, zero, suc, ◌+◌, ◌-◌, ◌<◌, ◌≤◌, Bool, true, false, if◌then◌else◌, List, [], ◌∷◌, length, map, slice_index, refl, ap, ◌∙◌, arith}
 use Rattle.ens_base.specs.Lists.{◌∈◌}
-use Rattle.history_laws.specs.Parts.{RiseWith, numbered_answer, numbered_call}
+use Rattle.history_laws.specs.Parts.{RiseWith, numbered_call}
 use Rattle.history_record.specs.Calls.{call_at, calls_from}
 use Rattle.register_model.specs.declared.answer.Answer.{Answer}
 use Rattle.register_model.specs.declared.call.Call.{Call}

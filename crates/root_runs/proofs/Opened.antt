@@ -5,7 +5,6 @@ use Rattle.ens_base.specs.Lists.{◌∈◌, AreDistinct}
 use Rattle.ens_base.proofs.Lists.{in_append, in_left, in_right}
 use Rattle.register_model.specs.declared.printed.Printed.{Printed}
 use Rattle.register_model.specs.declared.printed.Printed.TheVariants as printed
-use Rattle.schedule_text.specs.declared.event.ScheduleEvent.{ScheduleEvent}
 use Rattle.root_script.specs.Spelling.{IsScript}
 use Rattle.root_script.specs.declared.event.RootEvent.{RootEvent}
 use Rattle.root_script.specs.declared.script.RootScript.{RootScript}
@@ -13,7 +12,7 @@ use Rattle.root_script.specs.declared.slots.Ensemble.{Ensemble}
 use Rattle.root_script.specs.declared.slots.Ensemble.TheVariants.{Root, Slot}
 use Rattle.root_runs.specs.Lines.{ensemble_of, own_event}
 use Rattle.root_runs.specs.Openings.{Opening, told_by}
-use Rattle.root_runs.specs.Steps.{AreInOrder, AreOpened, Branch, GrowByLine, Roots, at_first, in_ensemble, in_slot, open_lines, open_slot, open_told, opened_at, printed_next, put, roots_after, said, step, steps}
+use Rattle.root_runs.specs.Steps.{AreInOrder, AreOpened, Branch, GrowByLine, Roots, at_first, in_ensemble, in_slot, open_lines, open_slot, open_told, opened_at, printed_next, roots_after, said, step, steps}
 use Rattle.root_runs.specs.Worlds.{Worlds}
 use Rattle.root_runs.proofs.Fronts.{run_openings}
 

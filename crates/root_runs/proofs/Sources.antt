@@ -1,5 +1,5 @@
 -- Where each printed answer comes from.
-use Rattle.std.proofs.Common.{◌≡◌, ℕ, ◌+◌, ◌<◌, ◌≤◌, ◌==◌, ◌⊎◌, inl, inr, nat_lt, drop, Bool, true, false, if◌then◌else◌, List, [], ◌∷◌, ◌++◌, map, Option, Some, None, refl, sym, ap, subst, ◌∙◌, arith}
+use Rattle.std.proofs.Common.{◌≡◌, ℕ, ◌+◌, ◌≤◌, ◌⊎◌, inl, inr, nat_lt, drop, Bool, true, false, if◌then◌else◌, List, [], ◌∷◌, ◌++◌, map, Option, Some, None, refl, sym, ap, subst, ◌∙◌, arith}
 use Rattle.std.specs.Prelude.{filter}
 use Rattle.std.proofs.lemmas.Bool.Decides.{nat_tests}
 use Rattle.ens_base.specs.Lists.{◌∈◌}
@@ -14,14 +14,14 @@ use Rattle.register_model.specs.declared.answer.Answer.{Answer}
 use Rattle.register_model.specs.declared.call.Call.{Call}
 use Rattle.register_model.specs.declared.printed.Printed.{Printed}
 use Rattle.register_model.specs.declared.printed.Printed.TheVariants as printed
-use Rattle.root_script.specs.Spelling.{AllMayStand, IsScript}
+use Rattle.root_script.specs.Spelling.{IsScript}
 use Rattle.root_script.specs.declared.slots.Ensemble.{Ensemble}
 use Rattle.root_script.specs.declared.slots.Ensemble.TheVariants.{Root, Slot}
 use Rattle.root_script.specs.declared.event.RootEvent.{RootEvent}
 use Rattle.root_script.specs.declared.event.RootEvent.TheVariants.{At, Open, Look, Route}
 use Rattle.root_script.specs.declared.script.RootScript.{RootScript}
 use Rattle.root_runs.specs.Legal.{HaveLegalStories, answers_of, routed_calls_from, slot_calls_from}
-use Rattle.root_runs.specs.Lines.{Line, ensemble_of, events_of, number_of}
+use Rattle.root_runs.specs.Lines.{ensemble_of, events_of, number_of}
 use Rattle.root_runs.specs.Openings.{Opening}
 use Rattle.root_runs.specs.Runs.{RootPrinted, by, ensemble_printed, ensemble_story, is_at, lines_of, lines_with, numbered, opening_of, opens_before, outside, printed_at, printed_from, printed_of, unrouted}
 use Rattle.root_runs.specs.Slots.{slot_of}

@@ -1,13 +1,13 @@
 -- The view that an answer tells is the value that the key of the slot has.
-use Rattle.std.proofs.Common.{◌≡◌, ℕ, ◌+◌, ◌<◌, ◌≤◌, ◌==◌, inl, inr, Bool, true, false, if◌then◌else◌, List, [], ◌∷◌, ◌++◌, length, map, drop, Option, Some, None, Result, Ok, Err, refl, sym, ap, subst, ◌∙◌, arith, append-nil}
+use Rattle.std.proofs.Common.{◌≡◌, ℕ, ◌+◌, ◌==◌, inl, inr, Bool, true, false, if◌then◌else◌, List, [], ◌∷◌, length, Option, Some, None, Ok, refl, sym, ap, ◌∙◌, arith, append-nil}
 use Rattle.std.specs.Prelude.{find}
 use Rattle.std.proofs.lemmas.Bool.Decides.{nat_tests}
+use Rattle.std.proofs.lemmas.Bool.{eqb-true}
 use Rattle.ens_base.specs.Lists.{◌∈◌}
 use Rattle.ens_base.specs.View.{IsView}
 use Rattle.ens_base.specs.declared.command.Command.TheVariants.{Get, PutOnce}
 use Rattle.ens_base.specs.declared.reply.Reply.{Reply}
 use Rattle.ens_fields.specs.Views.{view_at as read_view, view_spelling}
-use Rattle.ens_fields.specs.declared.field_error.FieldError.{FieldError}
 use Rattle.ens_fields.proofs.ViewLaws.{view_grammar}
 use Rattle.history_laws.specs.Openings.{told as told_value}
 use Rattle.register_model.specs.declared.answer.Answer.{Answer}
@@ -19,9 +19,6 @@ use Rattle.root_script.specs.declared.event.RootEvent.TheVariants.{At, Open, Loo
 use Rattle.root_runs.specs.Legal.{slot_calls_from}
 use Rattle.root_runs.specs.Openings.{Opening, of_slot, opening_in, or_later, told, told_to, view_at, view_in}
 use Rattle.root_runs.specs.Slots.{slot_key, view_of_bytes, whole_view}
-
-same_number : (m n : ℕ) → (m == n) ≡ true → m ≡ n
-same_number m n h = grind (arith, nat_tests)
 
 is_whole : (n : ℕ) → (0 + n == n) ≡ true
 is_whole n = grind (arith, nat_tests)
@@ -51,8 +48,8 @@ open_tells peers n peer id s slot view new more a (Reply.Ok stamp) is h same tel
       record { id = id; key = slot_key s; command = PutOnce (view_spelling view); event = n },
       view_spelling view,
       inl refl,
-      sym (same_number id a.id same),
-      ap slot_key (same_number s slot t.0),
+      sym (eqb-true id a.id same),
+      ap slot_key (eqb-true s slot t.0),
       ap (told_value (PutOnce (view_spelling view))) is,
       spelled_view view h.4 ∙ t.1,
     )
@@ -65,8 +62,8 @@ look_tells n peer id s slot new more a (Reply.Value stamp bytes) is same tells =
       record { id = id; key = slot_key s; command = Get; event = n },
       bytes,
       inl refl,
-      sym (same_number id a.id same),
-      ap slot_key (same_number s slot t.0),
+      sym (eqb-true id a.id same),
+      ap slot_key (eqb-true s slot t.0),
       ap (told_value Get) is,
       t.1,
     )

@@ -1,17 +1,14 @@
 -- What is read as an event is spelled so, and may stand in a script.
-use Rattle.std.proofs.Common.{◌≡◌, ℕ, ◌+◌, ◌-◌, ◌<◌, ◌≤◌, ◌^◌, ◌==◌, ◌||◌, ◌⊎◌, inl, inr, nat_lt, Bool, true, false, if◌then◌else◌, List, [], ◌∷◌, ◌++◌, length, codes, Option, Some, None, Result, Ok, Err, refl, sym, ap, subst, ◌∙◌, arith, lit<, length-append}
+use Rattle.std.proofs.Common.{◌≡◌, ℕ, ◌+◌, ◌-◌, ◌<◌, ◌≤◌, ◌^◌, ◌==◌, ◌||◌, ◌⊎◌, inl, inr, nat_lt, Bool, true, false, if◌then◌else◌, List, [], ◌∷◌, ◌++◌, length, codes, Result, Ok, Err, refl, sym, ap, ◌∙◌, arith, lit<, length-append}
 use Rattle.std.proofs.lemmas.Bool.Decides.{nat_tests}
-use Rattle.std.proofs.lemmas.Bool.{or_parts}
 use Rattle.std.proofs.lemmas.List.Splits.{join_with_byte-slice_split}
 use Rattle.std.specs.Fmt.{decimal}
 use Rattle.std.specs.List.{join_with_byte}
 use Rattle.ens_base.proofs.Lists.{bytes_same}
 use Rattle.ens_base.specs.Lists.{same_bytes}
 use Rattle.ens_base.specs.Results.{◌>>=◌}
-use Rattle.ens_base.specs.View.{IsView}
 use Rattle.ens_base.specs.Words.{bytes_word}
 use Rattle.schedule_words.specs.Causes.{or_cause}
-use Rattle.schedule_words.specs.Spelling.{AreMembers, IsAmong, member_words}
 use Rattle.schedule_words.specs.Words.{number_of, peer_of, view_of, words_of}
 use Rattle.schedule_words.specs.declared.cause.Cause.{Cause}
 use Rattle.schedule_words.specs.declared.cause.Cause.TheVariants.{TooLong, Unknown, Words}
@@ -28,6 +25,8 @@ use Rattle.schedule_text.specs.declared.event.ScheduleEvent.{ScheduleEvent}
 use Rattle.schedule_text.specs.declared.event.ScheduleEvent.TheVariants as schedule
 use Rattle.schedule_text.proofs.EventsRead.{event_of-ok}
 use Rattle.schedule_text.proofs.Lookups.{find_word}
+use Rattle.schedule_text.proofs.OneLine.{some_words}
+use Rattle.schedule_text.proofs.Parts.{parts_of_some}
 use Rattle.root_script.specs.Events.{at_of, ensemble_of, in_ensemble, is_barred, is_early, keyword_event, look_from, look_of, open_from, open_of, own_event, root_event_of, route_of, routed, slot_of, words_root_event}
 use Rattle.root_script.specs.Keywords.{keyword_of, keyword_word, keywords}
 use Rattle.root_script.specs.Spelling.{IsEnsemble, MayFollowAt, MayStand, ensemble_word, root_event_line, root_event_words}
@@ -38,7 +37,7 @@ use Rattle.root_script.specs.declared.event.RootEvent.TheVariants.{At, Open, Loo
 use Rattle.root_script.specs.declared.keyword.Keyword.{Keyword}
 use Rattle.root_script.specs.declared.keyword.Keyword.TheVariants as line
 use Rattle.root_script.proofs.Lines.{at_words, by_words, call_words}
-use Rattle.root_script.proofs.Splits.{first_part, parts_of_some}
+use Rattle.root_script.proofs.Splits.{first_part}
 
 -- ---- words joined by spaces
 
@@ -52,25 +51,6 @@ spelled word rest =
     let some = parts_of_some 32 rest in
     let full : 0 < length (words_of rest) = rw some.2 (omega arith) in
     ap (λ (l : List ℕ). word ++ (32 ∷ l)) (sym (join_with_byte-slice_split 32 rest)) ∙ sym (join_cons word (words_of rest) full)
-
-some_words : (event : ScheduleEvent) → 0 < length (event_words event)
-some_words (schedule.Call peer id key command) = omega arith
-some_words schedule.Calm = omega arith
-some_words (schedule.Tick peer ticks) = omega arith
-some_words (schedule.Deliver message) = omega arith
-some_words (schedule.Pass sender receiver) = omega arith
-some_words (schedule.Lose sender receiver) = omega arith
-some_words (schedule.CalmAmong members) = omega arith
-some_words (schedule.Change peer view) = omega arith
-some_words (schedule.Stop peer) = omega arith
-some_words (schedule.Start peer) = omega arith
-some_words (schedule.Upgrade peer) = omega arith
-some_words schedule.Deepen = omega arith
-some_words (schedule.Spoil peer key bytes) = omega arith
-some_words (schedule.Damage peer key bytes) = omega arith
-some_words (schedule.Inner peer level index bytes) = omega arith
-some_words (schedule.Revert peer changes) = omega arith
-some_words (schedule.Fail peer store survivor) = omega arith
 
 -- ---- ensembles
 

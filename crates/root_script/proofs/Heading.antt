@@ -1,26 +1,17 @@
 -- What the lines of a heading say.
-use Rattle.std.proofs.Common.{◌≡◌, ℕ, ◌≤◌, ◌==◌, Bool, true, false, nat_lt, if◌then◌else◌, List, [], ◌∷◌, length, codes, Result, Ok, Err, refl, sym, ap, ◌∙◌, lit<}
-use Rattle.ens_base.proofs.Lists.{bytes_same}
-use Rattle.std.proofs.lemmas.List.Splits.{join_with_byte-slice_split}
-use Rattle.std.specs.Fmt.{decimal}
-use Rattle.std.specs.List.{join_with_byte}
-use Rattle.ens_base.specs.Lists.{same_bytes}
+use Rattle.std.proofs.Common.{◌≡◌, ℕ, Bool, true, false, nat_lt, if◌then◌else◌, List, [], length, Result, Ok, Err, ap}
 use Rattle.ens_base.specs.Results.{◌>>=◌}
-use Rattle.ens_base.specs.View.{IsView}
-use Rattle.schedule_words.specs.Spelling.{AreMembers, member_words}
-use Rattle.schedule_words.specs.Words.{number_of, view_of, words_of}
+use Rattle.schedule_words.specs.Words.{words_of}
 use Rattle.schedule_words.specs.declared.cause.Cause.{Cause}
-use Rattle.schedule_words.specs.declared.cause.Cause.TheVariants.{Heading, TooLong}
+use Rattle.schedule_words.specs.declared.cause.Cause.TheVariants.{TooLong}
 use Rattle.schedule_words.specs.declared.cause.WordError.{WordError}
 use Rattle.schedule_words.specs.declared.cause.WordError.TheVariants as refusal
-use Rattle.schedule_words.proofs.Ascending.{view_of-ok}
-use Rattle.schedule_words.proofs.Dotted.{number_of-ok}
-use Rattle.schedule_words.proofs.Results.{bind_ok, ok_same}
+use Rattle.schedule_words.proofs.Results.{ok_same}
 use Rattle.schedule_text.specs.Events.{line_limit}
 use Rattle.schedule_text.specs.Progress.{Progress}
 use Rattle.schedule_text.specs.Progress as heading
 use Rattle.schedule_text.specs.Errors.{error_at}
-use Rattle.schedule_text.specs.Reading.{bounded, heading as in_heading, opening_of, peers_of, with_line as with_heading, TakesLine, TakesWords}
+use Rattle.schedule_text.specs.Reading.{bounded, opening_of, peers_of, with_line as with_heading, TakesLine, TakesWords}
 use Rattle.schedule_text.specs.declared.error.ScheduleError.{ScheduleError}
 use Rattle.schedule_text.specs.declared.error.ScheduleError.TheVariants.{Bad, Lines, Memory}
 use Rattle.root_script.specs.Progress.{Counted, Running, HasHeading, IsCounted, IsHeading, IsTitled, IsWhole, begun, progress_of}
@@ -30,36 +21,6 @@ use Rattle.root_script.specs.declared.stage.Stage.TheVariants as at
 use Rattle.root_script.specs.Reading.{with_line, TakesWords as TakesScriptWords}
 use Rattle.root_script.specs.Refusals.{line_in}
 use Rattle.root_script.proofs.Refusals.{refused_so}
-
-heading_ok : {A : Type 0} (r : Result A Cause) (x : A) → in_heading r ≡ Ok x → r ≡ Ok x
-heading_ok (Ok y) x h = h
-heading_ok (Err e) x h = cc h
-
-pub if_heading : {A : Type 0} (b : Bool) (r : Result A Cause) (x : A) → (if b then r else Err Heading) ≡ Ok x → (b ≡ true) × (r ≡ Ok x)
-if_heading true r x h = (refl, h)
-if_heading false r x h = cc h
-
-pub joined : (text : List ℕ) (words : List (List ℕ)) → words_of text ≡ words → text ≡ join_with_byte 32 words
-joined text words h = sym (join_with_byte-slice_split 32 text) ∙ ap (join_with_byte 32) h
-
-pub peers_of-ok : (words : List (List ℕ)) (peers : ℕ) → peers_of words ≡ Ok peers → (words ≡ codes "peers" ∷ decimal peers ∷ []) × (1 ≤ peers) × (peers ≤ 31)
-peers_of-ok [] peers h = cc h
-peers_of-ok (a ∷ []) peers h = cc h
-peers_of-ok (a ∷ b ∷ []) peers h =
-    let parts = if_heading (same_bytes a (codes "peers")) (in_heading (number_of 1 31 b)) peers h in
-    let number = number_of-ok 1 31 b peers (lit< tt) (heading_ok (number_of 1 31 b) peers parts.1) in
-    let first = bytes_same a (codes "peers") parts.0 in
-    ((λ i. first i ∷ number.0 i ∷ []), number.1, number.2)
-peers_of-ok (a ∷ b ∷ c ∷ more) peers h = cc h
-
-pub opening_of-ok : (peers : ℕ) (words : List (List ℕ)) (view : List ℕ) → peers ≤ 31 → opening_of peers words ≡ Ok view
-    → (words ≡ codes "view" ∷ member_words view) × (AreMembers peers view × IsView view)
-opening_of-ok peers [] view few h = cc h
-opening_of-ok peers (a ∷ members) view few h =
-    let parts = if_heading (same_bytes a (codes "view")) (in_heading (view_of peers members)) view h in
-    let read = view_of-ok peers members view few (heading_ok (view_of peers members) view parts.1) in
-    let first = bytes_same a (codes "view") parts.0 in
-    ((λ i. first i ∷ read.2 i), (read.0, read.1))
 
 -- ---- a line of the heading of a schedule is one of a script
 

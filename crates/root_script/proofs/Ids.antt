@@ -1,5 +1,5 @@
 -- The ids of the calls of a list of events.
-use Rattle.std.proofs.Common.{◌≡◌, ℕ, ◌==◌, ◌||◌, ◌⊎◌, inl, inr, Bool, true, false, List, [], ◌∷◌, ◌++◌, Option, Some, None, refl, sym, ap, arith, append-nil}
+use Rattle.std.proofs.Common.{◌≡◌, ℕ, ◌==◌, inl, inr, true, false, List, [], ◌∷◌, ◌++◌, Option, Some, None, refl, ap, arith, append-nil}
 use Rattle.std.proofs.lemmas.Bool.{or_parts}
 use Rattle.std.proofs.lemmas.Bool.Decides.{nat_tests}
 use Rattle.std.specs.List.{list_any}
@@ -7,6 +7,7 @@ use Rattle.ens_base.specs.Lists.{AreDistinct, ◌∈◌}
 use Rattle.root_script.specs.Progress.{came_before, has_id, id_of, is_id, is_repeated}
 use Rattle.root_script.specs.Spelling.{ids_of, with_id}
 use Rattle.root_script.specs.declared.event.RootEvent.{RootEvent}
+use Rattle.schedule_text.proofs.Ids.{distinct_end}
 
 same : (n : ℕ) → (n == n) ≡ true
 same n = grind (arith, nat_tests)
@@ -22,17 +23,6 @@ not_among id (event ∷ more) h m =
     by None e m later = later m
     by (Some i) e (inl is) later = let is_same : (i == id) ≡ true = rw is (same i) in cc (is_same, e)
     by (Some i) e (inr m) later = later m
-
-in_end : {A : Type 0} (x y : A) (xs : List A) → x ∈ (xs ++ y ∷ []) → (x ∈ xs) ⊎ (x ≡ y)
-in_end x y [] (inl e) = inr e
-in_end x y [] (inr m) = absurd m
-in_end x y (z ∷ zs) (inl e) = inl (inl e)
-in_end x y (z ∷ zs) (inr m) = elim (in_end x y zs m) [ inl k ↦ inl (inr k) | inr e ↦ inr e ]
-
-distinct_end : {A : Type 0} (y : A) (xs : List A) → AreDistinct xs → ¬ (y ∈ xs) → AreDistinct (xs ++ y ∷ [])
-distinct_end y [] h k = (λ m. m, tt)
-distinct_end y (x ∷ xs) h k =
-    (λ m. elim (in_end x y xs m) [ inl n ↦ h.0 n | inr e ↦ k (inl (sym e)) ], distinct_end y xs h.1 (λ m. k (inr m)))
 
 ids_of-end : (events : List RootEvent) (event : RootEvent) → ids_of (events ++ event ∷ []) ≡ ids_of events ++ with_id (id_of event) []
 ids_of-end [] event = refl

@@ -1,19 +1,16 @@
 -- The words of a line, taken from its front.
-use Rattle.std.proofs.Common.{◌≡◌, ℕ, ◌+◌, ◌<◌, ◌≤◌, ◌==◌, ◌||◌, nat_lt, Bool, true, false, if◌then◌else◌, List, [], ◌∷◌, ◌++◌, length, codes, map, Option, Some, None, Result, Ok, Err, refl, sym, ap, ◌∙◌, arith, lit<}
+use Rattle.std.proofs.Common.{◌≡◌, ℕ, ◌+◌, ◌≤◌, nat_lt, true, false, List, [], ◌∷◌, ◌++◌, length, codes, Option, Some, None, Err, refl, sym, ap, ◌∙◌, arith}
 use Rattle.std.proofs.lemmas.Bool.Decides.{nat_tests}
 use Rattle.schedule_words.specs.Words.{words_of}
-use Rattle.schedule_words.specs.declared.cause.Cause.{Cause}
 use Rattle.schedule_words.specs.declared.cause.Cause.TheVariants.{Unknown, Words}
-use Rattle.schedule_words.proofs.Joined.{has, parts_of-more}
+use Rattle.schedule_words.proofs.Joined.{parts_of-more}
 use Rattle.schedule_text.specs.Events.{event_of, line_limit, words_event}
-use Rattle.schedule_text.specs.declared.event.ScheduleEvent.{ScheduleEvent}
 use Rattle.schedule_text.proofs.Lookups.{find_word}
+use Rattle.schedule_text.proofs.Parts.{parts_of_some}
 use Rattle.root_script.specs.Events.{at_of, in_ensemble, is_barred, keyword_event, own_event, root_event_of, words_root_event}
 use Rattle.root_script.specs.Keywords.{keyword_of, keyword_word, keywords, lone_cause}
-use Rattle.root_script.specs.declared.event.RootEvent.{RootEvent}
 use Rattle.root_script.specs.declared.keyword.Keyword.{Keyword}
 use Rattle.root_script.specs.declared.keyword.Keyword.TheVariants as line
-use Rattle.root_script.proofs.Splits.{parts_of_some}
 
 not_long : (n : ℕ) → n ≤ line_limit → nat_lt line_limit n ≡ false
 not_long n h = grind (arith, nat_tests)

@@ -1,14 +1,14 @@
 -- A text is read by its first line and what follows the line feed.
-use Rattle.std.proofs.Common.{◌≡◌, ℕ, List, [], ◌∷◌, Result, Ok, Err, refl, sym, ap, ◌∙◌}
+use Rattle.std.proofs.Common.{◌≡◌, ℕ, List, ◌∷◌, Result, Ok, Err, sym, ap, ◌∙◌}
 use Rattle.line_reading.specs.Reading.{and_then, read_parts, read_text}
 use Rattle.schedule_words.specs.Words.{parts_of}
 use Rattle.schedule_text.specs.Errors.{Stops}
 use Rattle.schedule_text.specs.declared.error.ScheduleError.{ScheduleError}
 use Rattle.schedule_text.specs.declared.error.ScheduleError.TheVariants.{Bad, Lines, Memory}
+use Rattle.schedule_text.proofs.Parts.{parts_of_some}
 use Rattle.root_script.specs.Progress.{RootProgress}
 use Rattle.root_script.specs.Reading.{ended, next_line, TakesLine}
 use Rattle.root_script.specs.declared.script.RootScript.{RootScript}
-use Rattle.root_script.proofs.Splits.{parts_of_some}
 
 -- a line, and the parts behind its line feed
 with_rest : (p : RootProgress) (text rest : List ℕ)

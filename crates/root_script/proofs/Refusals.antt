@@ -1,5 +1,6 @@
 -- What the error of a line says of the line alone.
-use Rattle.std.proofs.Common.{◌≡◌, ◌≤◌, ℕ, ◌==◌, if◌then◌else◌, Option, Some, None, Result, Ok, Err, refl, sym, ap, ◌∙◌, arith, lit≤}
+use Rattle.std.proofs.Common.{◌≡◌, ◌≤◌, ℕ, ◌==◌, if◌then◌else◌, Option, Some, Result, Ok, Err, refl, sym, ap, ◌∙◌, arith, lit≤}
+use Rattle.std.proofs.lemmas.Option.{same_Some}
 use Rattle.schedule_words.specs.Causes.{cause_number, Refuses}
 use Rattle.schedule_words.specs.declared.cause.Cause.{Cause}
 use Rattle.schedule_words.specs.declared.cause.Cause.TheVariants.{TooLong, Unfinished, Heading, Unknown, Words, Number, Bytes, Peers, Repeated}
@@ -35,12 +36,9 @@ cause_at-number Bytes = refl
 cause_at-number Peers = refl
 cause_at-number Repeated = refl
 
-some_same : {A : Type 0} (x y : A) → Some x ≡ Some y → x ≡ y
-some_same x y h = cc h
-
 -- two causes have two numbers
 pub one_cause : (a b : Cause) → cause_number a ≡ cause_number b → a ≡ b
-one_cause a b h = some_same a b (sym (cause_at-number a) ∙ ap cause_at h ∙ cause_at-number b)
+one_cause a b h = same_Some a b (sym (cause_at-number a) ∙ ap cause_at h ∙ cause_at-number b)
 
 numbered : (cause : Cause) → (1 ≤ cause_number cause) × (cause_number cause ≤ 9)
 numbered TooLong = (lit≤ tt, lit≤ tt)
@@ -78,8 +76,3 @@ refused_so {A = A} n read (Bad line number) (words.Bad cause) h k =
 refused_so n read Lines (words.Bad cause) h k = cc k
 refused_so n read Memory (words.Bad cause) h k = cc k
 refused_so n read e words.Memory h k = tt
-
--- what is read at a line is read
-pub at_line_ok : {A : Type 0} (n : ℕ) (read : Result A Cause) (x : A) → at_line n read ≡ Ok x → read ≡ Ok x
-at_line_ok n (Ok y) x h = let same : y ≡ x = cc h in ap Ok same
-at_line_ok n (Err e) x h = cc h

@@ -1,24 +1,22 @@
 -- What is read as a script is one, and its text is what was read.
-use Rattle.std.proofs.Common.{◌≡◌, ℕ, ◌+◌, ◌<◌, ◌≤◌, ◌==◌, Bool, true, false, nat_lt, if◌then◌else◌, List, [], ◌∷◌, ◌++◌, length, map, Result, Ok, Err, refl, sym, ap, ◌∙◌, arith, append_assoc, append-nil}
+use Rattle.std.proofs.Common.{◌≡◌, ℕ, ◌+◌, ◌<◌, ◌≤◌, ◌==◌, Bool, true, false, nat_lt, if◌then◌else◌, List, [], ◌∷◌, ◌++◌, length, map, Result, Ok, Err, refl, sym, ap, ◌∙◌, arith, append-nil}
 use Rattle.ens_base.proofs.Lists.{bytes_same}
-use Rattle.std.proofs.lemmas.Bool.Decides.{nat_tests}
 use Rattle.std.proofs.lemmas.List.{length-append}
-use Rattle.std.proofs.lemmas.List.Concat.{flat_map-append}
 use Rattle.std.proofs.lemmas.List.Splits.{join_with_byte-slice_split}
 use Rattle.std.specs.List.{join_with_byte}
 use Rattle.ens_base.specs.Lists.{same_bytes}
 use Rattle.ens_base.specs.Results.{◌>>=◌}
 use Rattle.line_reading.specs.Reading.{and_then, read_parts}
 use Rattle.schedule_words.specs.Words.{parts_of, words_of}
-use Rattle.schedule_words.specs.declared.cause.Cause.{Cause}
-use Rattle.schedule_words.specs.declared.cause.Cause.TheVariants.{TooLong, Unfinished, Repeated}
+use Rattle.schedule_words.specs.declared.cause.Cause.TheVariants.{Unfinished, Repeated}
 use Rattle.schedule_words.proofs.Results.{bind_ok, ok_same}
 use Rattle.schedule_text.specs.Events.{line_limit}
 use Rattle.schedule_text.specs.Reading.{bounded, most_lines, opening_of, peers_of}
 use Rattle.schedule_text.specs.Spelling.{peers_line, view_line}
-use Rattle.schedule_text.specs.Writing.{feed, feeds}
+use Rattle.schedule_text.specs.Writing.{feeds}
 use Rattle.schedule_text.specs.declared.error.ScheduleError.{ScheduleError}
-use Rattle.schedule_text.specs.declared.error.ScheduleError.TheVariants.{Lines}
+use Rattle.schedule_text.proofs.SchedulesRead.{if_heading, joined, peers_of-ok, opening_of-ok, unless_lines, not_last, bounded_err, feeds-end, at_line_ok}
+use Rattle.schedule_text.proofs.EventsRead.{short_enough}
 use Rattle.root_script.specs.Events.{root_event_of}
 use Rattle.root_script.specs.Progress.{RootProgress, Blank, Titled, Counted, Running, is_repeated, lines_so_far}
 use Rattle.root_script.specs.Reading.{at_next, ended, finished, next_line, script_of, with_line}
@@ -26,9 +24,7 @@ use Rattle.root_script.specs.Spelling.{AllMayStand, IsScript, MayStand, root_eve
 use Rattle.root_script.specs.declared.event.RootEvent.{RootEvent}
 use Rattle.root_script.specs.declared.script.RootScript.{RootScript}
 use Rattle.root_script.proofs.EventsRead.{root_event_of-ok}
-use Rattle.root_script.proofs.Heading.{if_heading, joined, opening_of-ok, peers_of-ok}
 use Rattle.root_script.proofs.Ids.{distinct_with}
-use Rattle.root_script.proofs.Refusals.{at_line_ok}
 
 -- the lines that were read
 abbrev lines_read : RootProgress → List (List ℕ)
@@ -94,22 +90,11 @@ sound_few Titled h = omega arith
 sound_few (Counted peers) h = omega arith
 sound_few (Running peers view events) h = let few : length events + 3 ≤ 200000 = h.lines in omega arith
 
-unless_lines : {A : Type 0} (b : Bool) (r : Result A ScheduleError) (x : A) → (if b then Err Lines else r) ≡ Ok x → (b ≡ false) × (r ≡ Ok x)
-unless_lines true r x h = cc h
-unless_lines false r x h = (refl, h)
-
-unless_long : {A : Type 0} (b : Bool) (r : Result A Cause) (x : A) → (if b then Err TooLong else r) ≡ Ok x → r ≡ Ok x
-unless_long true r x h = cc h
-unless_long false r x h = h
-
-not_last : (n : ℕ) → (n == most_lines) ≡ false → n ≤ 200000 → n < 200000
-not_last n h k = grind (arith, nat_tests)
-
 next_line-ok : (p q : RootProgress) (text : List ℕ) → IsSound p → next_line p text ≡ Ok q → IsSound q × (lines_read q ≡ lines_read p ++ text ∷ [])
 next_line-ok p q text sound h =
     let parts = unless_lines (lines_so_far p == most_lines) (at_next p (bounded text (with_line p text))) q h in
     let within = at_line_ok (lines_so_far p + 1) (bounded text (with_line p text)) q parts.1 in
-    with_line-ok p q text sound (not_last (lines_so_far p) parts.0 (sound_few p sound)) (unless_long (nat_lt line_limit (length text)) (with_line p text) q within)
+    with_line-ok p q text sound (not_last (lines_so_far p) parts.0 (sound_few p sound)) (short_enough (nat_lt line_limit (length text)) (with_line p text) q within)
 
 -- ---- the end
 
@@ -118,13 +103,6 @@ finished-ok Blank s sound h = cc h
 finished-ok Titled s sound h = cc h
 finished-ok (Counted peers) s sound h = cc h
 finished-ok (Running peers view events) s sound h = rw (← (ok_same h)) (sound, refl)
-
-bounded_err : {A : Type 0} (text : List ℕ) (cause : Cause) (x : A) → bounded text (Err cause) ≡ Ok x → ⊥
-bounded_err {A = A} text cause x h = by (nat_lt line_limit (length text)) h
-  where
-    by : (b : Bool) → (if b then Err TooLong else Err cause) ≡ Ok x → ⊥
-    by true h = cc h
-    by false h = cc h
 
 ended-ok : (p : RootProgress) (rest : List ℕ) (s : RootScript) → IsSound p → ended p rest ≡ Ok s → IsScript s × (feeds (lines_read p) ++ rest ≡ script_text s)
 ended-ok p [] s sound h =
@@ -138,9 +116,6 @@ and_then_ok : (r : Result RootProgress ScheduleError) (f : RootProgress → Resu
     → (q : RootProgress) × (r ≡ Ok q) × (f q ≡ Ok s)
 and_then_ok (Ok q) f s h = (q, refl, h)
 and_then_ok (Err e) f s h = cc h
-
-feeds-end : (lines : List (List ℕ)) (text rest : List ℕ) → feeds (lines ++ text ∷ []) ++ rest ≡ feeds lines ++ (text ++ (10 ∷ rest))
-feeds-end lines text rest = ap (λ (ls : List ℕ). ls ++ rest) (flat_map-append feed lines (text ∷ [])) ∙ simp (append_assoc, append-nil)
 
 parts_read : (p : RootProgress) (parts : List (List ℕ)) (s : RootScript) → IsSound p → read_parts next_line ended p parts ≡ Ok s
     → IsScript s × (feeds (lines_read p) ++ join_with_byte 10 parts ≡ script_text s)

@@ -1,41 +1,24 @@
 -- A text and the part in front of the first byte that parts it.
-use Rattle.std.proofs.Common.{◌≡◌, ℕ, ◌+◌, ◌<◌, ◌≤◌, ◌==◌, ◌⊎◌, inl, inr, nat_lt, Bool, true, false, Option, Some, None, List, [], ◌∷◌, ◌++◌, length, take, drop, refl, sym, ap, ◌∙◌, arith, cond}
-use Rattle.std.specs.Prelude.{MatchOption, position}
+use Rattle.std.proofs.Common.{◌≡◌, ℕ, ◌+◌, ◌<◌, ◌≤◌, ◌==◌, ◌⊎◌, inl, inr, Bool, true, false, Some, None, List, [], ◌∷◌, ◌++◌, length, take, drop, refl, ap, arith, cond}
+use Rattle.std.specs.Prelude.{position}
 use Rattle.std.proofs.lemmas.Bool.Decides.{nat_tests}
 use Rattle.std.proofs.lemmas.List.Splits.{slice_split_first, slice_split_none}
 use Rattle.std.proofs.lemmas.List.Sums.{fails_before_first}
 use Rattle.std.specs.List.{onto_first, position_or_len}
 use Rattle.schedule_words.specs.Words.{parts_of}
-
--- there is at least one part
-pub parts_of_some : (at : ℕ) (text : List ℕ) → (first : List ℕ) × (more : List (List ℕ)) × (parts_of at text ≡ first ∷ more)
-parts_of_some at [] = ([], [], refl)
-parts_of_some at (x ∷ xs) = by (x == at) (parts_of_some at xs)
-  where
-    by : (b : Bool) → (first : List ℕ) × (more : List (List ℕ)) × (parts_of at xs ≡ first ∷ more)
-        → (first : List ℕ) × (more : List (List ℕ)) × (cond b ([] ∷ parts_of at xs) (onto_first x (parts_of at xs)) ≡ first ∷ more)
-    by true (first, more, e) = ([], parts_of at xs, refl)
-    by false (first, more, e) = (x ∷ first, more, ap (onto_first x) e)
-
--- the place of the first such byte
-place : (text : List ℕ) (n : ℕ) (b : Bool) (o : Option ℕ) → nat_lt n (length text) ≡ b → cond b (Some n) None ≡ o
-    → MatchOption o (length text ≤ n) (λ k. (k ≡ n) × (n < length text))
-place text n true (Some k) e h = let same : n ≡ k = cc h in (sym same, grind (arith, nat_tests))
-place text n true None e h = cc h
-place text n false (Some k) e h = cc h
-place text n false None e h = grind (arith, nat_tests)
+use Rattle.schedule_text.proofs.Parts.{feed_place}
 
 -- a text without the byte is one part
 pub parts_of-none : (at : ℕ) (text : List ℕ) → position (λ b. b == at) text ≡ None → parts_of at text ≡ text ∷ []
 parts_of-none at text h =
-    let far : length text ≤ position_or_len (λ b. b == at) text = place text (position_or_len (λ b. b == at) text) _ None refl h in
+    let far : length text ≤ position_or_len (λ b. b == at) text = feed_place text (position_or_len (λ b. b == at) text) _ None refl h in
     slice_split_none (λ b. b == at) text (λ k d within. fails_before_first (λ b. b == at) text k d (omega arith))
 
 -- the first part of a text ends where the byte stands first
 pub parts_of-at : (at : ℕ) (text : List ℕ) (k : ℕ) → position (λ b. b == at) text ≡ Some k
     → (k < length text) × (parts_of at text ≡ take k text ∷ parts_of at (drop (k + 1) text))
 parts_of-at at text k h =
-    let first = place text (position_or_len (λ b. b == at) text) _ (Some k) refl h in
+    let first = feed_place text (position_or_len (λ b. b == at) text) _ (Some k) refl h in
     let within : k < length text = rw first.0 first.1 in
     (within, rw first.0 (slice_split_first (λ b. b == at) text 0 first.1))
 

@@ -13,20 +13,7 @@ use Rattle.history_record.specs.Calls.{keys_of}
 use Rattle.schedule_text.specs.declared.event.ScheduleEvent.{ScheduleEvent}
 use Rattle.schedule_text.specs.declared.event.ScheduleEvent.TheVariants as line
 use Rattle.run_laws.proofs.Printing.{called_in}
-
-inserted : (ks : List (List ℕ)) (k y : List ℕ) → y ∈ insert_key bytes_cmp ks k → (y ≡ k) ⊎ (y ∈ ks)
-inserted [] k y there = there
-inserted (x ∷ xs) k y there = by (bytes_cmp k x) there (inserted xs k y)
-  where
-    deeper : (y ≡ k) ⊎ (y ∈ xs) → (y ≡ k) ⊎ (y ∈ (x ∷ xs))
-    deeper (inl e) = inl e
-    deeper (inr m) = inr (inr m)
-
-    by : (o : Ordering) → y ∈ match_ordering o (k ∷ x ∷ xs) (x ∷ xs) (x ∷ insert_key bytes_cmp xs k) → (y ∈ insert_key bytes_cmp xs k → (y ≡ k) ⊎ (y ∈ xs)) → (y ≡ k) ⊎ (y ∈ (x ∷ xs))
-    by Less m rest = m
-    by Equal m rest = inr m
-    by Greater (inl e) rest = inr (inl e)
-    by Greater (inr m) rest = deeper (rest m)
+use Rattle.history_audit.proofs.Rising.{inserted}
 
 insert_in : (ks : List (List ℕ)) (k y : List ℕ) → (y ≡ k) ⊎ (y ∈ ks) → y ∈ insert_key bytes_cmp ks k
 insert_in [] k y there = there

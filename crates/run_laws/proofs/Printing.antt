@@ -1,6 +1,7 @@
 -- What a run prints: at each event the answers of that event, and then the outcome of the change that it asks
 -- for, if it asks for one.
 use Rattle.std.proofs.Common.{◌≡◌, ℕ, zero, suc, ◌+◌, ◌-◌, ◌<◌, ◌≤◌, ◌^◌, ◌⊎◌, inl, inr, Bool, true, false, nat_lt, if◌then◌else◌, Option, None, Some, List, [], ◌∷◌, ◌++◌, length, map, refl, sym, ap, subst, ◌∙◌, arith, append-nil, append_assoc}
+use Rattle.std.proofs.lemmas.Bool.{ne_eqb}
 use Rattle.std.specs.Prelude.{slice_get}
 use Rattle.history_record.specs.Calls.{change_peer}
 use Rattle.held_stores.specs.Held.{Held}
@@ -25,7 +26,7 @@ use Rattle.world_spec.specs.Nodes.{Node, Up, Down, taken, taken_by, run_over, st
 use Rattle.world_spec.specs.Runs.{Run, mode_at, next_event, answer_line, change_line, printed_by, place_of, stepped_at, stepped, changed_at, changed, may_deepen, deepened, with_deepening, ticked, received, without_waiting, received_if, delivered, delivered_if, going_on, calmed}
 use Rattle.world_spec.specs.Stores.{failing, leaves_of, spoiled, segment_spoiled, inner_spoiled, taken_back}
 use Rattle.run_laws.proofs.Replied.{HasReplies, step_replies}
-use Rattle.run_laws.proofs.Told.{Follow, itself, differs}
+use Rattle.run_laws.proofs.Told.{Follow, itself}
 
 -- ## Lines that may follow each other
 
@@ -246,7 +247,7 @@ asks_here (Change peer view) more n = rw (itself n) refl
 asks_here event more n = tt
 
 asks_later : (event : ScheduleEvent) (more : List ScheduleEvent) (n e peer : ℕ) → n + 1 ≤ e → change_peer (n + 1) more e ≡ Some peer → change_peer n (event ∷ more) e ≡ Some peer
-asks_later (Change p view) more n e peer up h = rw (differs n e (λ same. absurd (omega (arith, same, up)))) h
+asks_later (Change p view) more n e peer up h = rw (ne_eqb n e (λ same. absurd (omega (arith, same, up)))) h
 asks_later event more n e peer up h = h
 
 pub run_prints : (events : List ScheduleEvent) (w : Run) (n : ℕ) → w.events + 1 ≡ n → n + length events < 2 ^ 32 → PrintsOn n events w

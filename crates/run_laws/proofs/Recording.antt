@@ -1,6 +1,7 @@
 -- The record of a replay is read without a fault, and its report has none.
 use Rattle.std.proofs.Common.{◌≡◌, ℕ, ◌+◌, ◌<◌, ◌≤◌, ◌^◌, ◌==◌, Bool, true, false, inl, inr, if◌then◌else◌, Option, None, Some, List, [], ◌∷◌, ◌++◌, length, codes, map, Ok, refl, sym, ap, subst, ◌∙◌, arith, append_assoc}
 use Rattle.std.proofs.lemmas.Bool.Decides.{nat_tests}
+use Rattle.std.proofs.lemmas.Bool.{ne_eqb}
 use Rattle.std.specs.List.{AllByRecursion, flat_map}
 use Rattle.std.specs.Prelude.{Contains}
 use Rattle.abstract_protocol.specs.Protocol.{State, state_after}
@@ -29,7 +30,7 @@ use Rattle.register_model.specs.declared.call.Call.{Call}
 use Rattle.register_model.specs.declared.history.History.{History}
 use Rattle.register_model.specs.declared.printed.Printed.{Printed}
 use Rattle.register_model.specs.declared.printed.Printed.TheVariants as lines
-use Rattle.cluster.proofs.Replay.{Contains_from_in, in_from_Contains, one_text}
+use Rattle.cluster.proofs.Replay.{Contains_from_in, in_from_Contains, one_text, firm_lines}
 use Rattle.cluster.specs.Replay.{Prints, hashed_by, IsTextOfRun, schedule_run}
 use Rattle.safety_laws.proofs.Noted.{Listed, run_listed}
 use Rattle.schedule_premise.specs.Premise.{first_unsound}
@@ -40,13 +41,14 @@ use Rattle.schedule_text.specs.declared.event.ScheduleEvent.{ScheduleEvent}
 use Rattle.schedule_text.specs.declared.event.ScheduleEvent.TheVariants as line
 use Rattle.schedule_text.specs.declared.schedule.Schedule.{Schedule}
 use Rattle.call_refinement.proofs.StepRefinement.{images_few}
+use Rattle.call_refinement.proofs.Schedules.{id_called}
 use Rattle.world_spec.specs.Runs.{Run, opening_run}
 use Rattle.run_laws.proofs.Again.{HistoryFits, LineFits}
 use Rattle.run_laws.proofs.Keys.{called_keys, keys_called, keys_rise}
 use Rattle.run_laws.proofs.Printing.{PrintsOn, called_in, run_prints}
-use Rattle.run_laws.proofs.Standing.{HasBook, few_events, firm_lines, has_book}
+use Rattle.run_laws.proofs.Standing.{HasBook, few_events, has_book}
 use Rattle.run_laws.proofs.Timely.{replies_fit, run_timely}
-use Rattle.run_laws.proofs.Told.{AreTold, Follow, IsTimely, differs, itself, text_read}
+use Rattle.run_laws.proofs.Told.{AreTold, Follow, IsTimely, itself, text_read}
 use Rattle.run_laws.specs.Recorded.{IsFaultless, IsWellRecorded}
 
 -- ## The calls of a schedule
@@ -64,18 +66,12 @@ call_fits peers n (line.Call peer id key command ∷ more) c may (inl e) = subst
 call_fits peers n (line.Call peer id key command ∷ more) c may (inr m) = call_fits peers (n + 1) more c may.1 m
 call_fits peers n (_ ∷ more) c may m = call_fits peers (n + 1) more c may.1 m
 
-id_in : (n : ℕ) (events : List ScheduleEvent) (c : Call) → c ∈ calls_from n events → c.id ∈ call_ids events
-id_in n [] c m = absurd m
-id_in n (line.Call peer id key command ∷ more) c (inl e) = inl (ap (λ (x : Call). x.id) e)
-id_in n (line.Call peer id key command ∷ more) c (inr m) = inr (id_in (n + 1) more c m)
-id_in n (_ ∷ more) c m = id_in (n + 1) more c m
-
 -- among distinct ids a call is found by its own
 call_found : (n : ℕ) (events : List ScheduleEvent) (c : Call) → AreDistinct (call_ids events) → c ∈ calls_from n events → call_event n events c.id ≡ Some c.event
 call_found n [] c distinct m = absurd m
 call_found n (line.Call peer id key command ∷ more) c distinct (inl e) = subst (λ (x : Call). call_event n (line.Call peer id key command ∷ more) x.id ≡ Some x.event) (sym e) (rw (itself id) refl)
 call_found n (line.Call peer id key command ∷ more) c distinct (inr m) =
-    rw (differs id c.id (λ same. distinct.0 (subst (λ (i : ℕ). i ∈ call_ids more) (sym same) (id_in (n + 1) more c m)))) (call_found (n + 1) more c distinct.1 m)
+    rw (ne_eqb id c.id (λ same. distinct.0 (subst (λ (i : ℕ). i ∈ call_ids more) (sym same) (id_called (n + 1) more c m)))) (call_found (n + 1) more c distinct.1 m)
 call_found n (_ ∷ more) c distinct m = call_found (n + 1) more c distinct m
 
 calls_few : (n : ℕ) (events : List ScheduleEvent) → length (calls_from n events) ≤ length events
@@ -146,9 +142,6 @@ module _ (s : Schedule) (is : IsSchedule s) (sound : first_unsound s ≡ None) (
   abbrev run : Run
   run = schedule_run s
 
-  few : length s.events < 2 ^ 32
-  few = few_events s is sound apart
-
   prints : PrintsOn 1 s.events (opening_run s.form s.peers s.view)
   prints = run_prints s.events (opening_run s.form s.peers s.view) 1 refl (omega (arith, is.lines))
 
@@ -180,7 +173,7 @@ module _ (s : Schedule) (is : IsSchedule s) (sound : first_unsound s ≡ None) (
               after = subst (λ (x : Call). x.event ≤ a.event) asked (run_timely s.view b.steps b.run a noted);
               within = within;
             },
-            (subst (λ (i : ℕ). i < 2 ^ 64) c.2 fits.0, omega (arith, within, few), replies_fit s.view b.steps b.run b.asks b.epochs a noted),
+            (subst (λ (i : ℕ). i < 2 ^ 64) c.2 fits.0, omega (arith, within, (few_events s is sound apart)), replies_fit s.view b.steps b.run b.asks b.epochs a noted),
           )
 
   told : AreTold s.events run.printed
@@ -190,7 +183,7 @@ module _ (s : Schedule) (is : IsSchedule s) (sound : first_unsound s ≡ None) (
       record {
         last = 1 + length s.events;
         follow = lower (change_peer 1 s.events) 1 (1 + length s.events) run.printed follow;
-        fit = lines_fit s.peers s.events 1 (1 + length s.events) run.printed is.peers.1 few is.events follow (λ a m. (answer_told b a m).1);
+        fit = lines_fit s.peers s.events 1 (1 + length s.events) run.printed is.peers.1 (few_events s is sound apart) is.events follow (λ a m. (answer_told b a m).1);
         timely = λ a m. (answer_told b a m).0;
         once = (causes_of s.view b.steps s.events run b.run b.agrees).once;
       }
@@ -214,7 +207,7 @@ module _ (s : Schedule) (is : IsSchedule s) (sound : first_unsound s ≡ None) (
   )
 
   legal : AreLegal s.events run.printed histories
-  legal = schedules_are_legal s.form s.peers s.view s.events is.peers.1 is.view.1 few (firm_lines s is sound) is.events is.distinct apart histories are_histories
+  legal = schedules_are_legal s.form s.peers s.view s.events is.peers.1 is.view.1 (few_events s is sound apart) (firm_lines s is sound) is.events is.distinct apart histories are_histories
 
   history_fits : (h : History) → h ∈ histories → HistoryFits h
   history_fits h m =

@@ -1,20 +1,19 @@
 -- The world after a sound schedule agrees with a run of the abstract protocol, in its calls and its answers.
-use Rattle.std.proofs.Common.{◌≡◌, ℕ, suc, ◌<◌, ◌^◌, List, [], ◌∷◌, length, None, refl, sym, subst, inl, inr, arith}
-use Rattle.std.specs.Prelude.{Contains}
+use Rattle.std.proofs.Common.{◌≡◌, ◌<◌, ◌^◌, List, [], length, None, refl, sym, subst, inl, arith}
 use Rattle.abstract_protocol.specs.Protocol.{State, Step, IsRun, opening, state_after}
 use Rattle.call_refinement.proofs.Agreement.{Stands, carried}
 use Rattle.call_refinement.proofs.OpeningWorld.{opening_holds}
 use Rattle.call_refinement.proofs.Schedules.{IsAfter, IsCarried, schedule_agrees}
+use Rattle.call_refinement.proofs.ScheduleLaws.{in_contains}
 use Rattle.call_refinement.specs.Lines.{BookAgrees, lines_of}
-use Rattle.ens_base.specs.Lists.{◌∈◌}
 use Rattle.held_stores.specs.Held.{HasNoClash}
 use Rattle.cluster.specs.Replay.{hashed_by, schedule_run}
-use Rattle.schedule_premise.proofs.Soundness.{majority_firm, named_in, none_is_sound}
+use Rattle.cluster.proofs.Replay.{firm_lines}
 use Rattle.schedule_premise.specs.Premise.{first_unsound}
 use Rattle.schedule_text.specs.Spelling.{IsSchedule}
 use Rattle.schedule_text.specs.declared.schedule.Schedule.{Schedule}
 use Rattle.call_refinement.specs.StepRefinement.{AsksFit, EpochsFit}
-use Rattle.sync_laws.specs.Facts.{AreFirm, Lines}
+use Rattle.sync_laws.specs.Facts.{Lines}
 use Rattle.call_refinement.specs.TreeRefinement.{AreFree}
 use Rattle.world_spec.specs.Runs.{Run, opening_run}
 
@@ -25,15 +24,6 @@ pub record HasBook (s : Schedule) : Type 0 where
   pub asks : AsksFit (state_after s.view steps)
   pub epochs : EpochsFit (state_after s.view steps)
   pub agrees : BookAgrees s.events (schedule_run s) (state_after s.view steps).book
-
--- of each view that a sound schedule names more than half of the members have seals or are never reverted
-pub firm_lines : (s : Schedule) → IsSchedule s → first_unsound s ≡ None → AreFirm (lines_of s.form s.view s.events)
-firm_lines s of sound view named = majority_firm s view of (none_is_sound s sound) (named_in s view named)
-
-in_contains : (strings : List (List ℕ)) (x : List ℕ) → x ∈ strings → Contains strings x
-in_contains [] x at = absurd at
-in_contains (y ∷ strings) x (inl same) = (0, omega arith, sym same)
-in_contains (y ∷ strings) x (inr at) = let there = in_contains strings x at in let within = there.1 in (suc there.0, omega (arith, within), there.2)
 
 module _ (s : Schedule) (is : IsSchedule s) (sound : first_unsound s ≡ None) (apart : HasNoClash (hashed_by s)) where
   abbrev Said : Lines

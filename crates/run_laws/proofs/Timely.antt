@@ -2,9 +2,9 @@
 use Rattle.std.proofs.Common.{◌≡◌, ℕ, ◌+◌, ◌<◌, ◌≤◌, ◌^◌, ◌==◌, ◌&&◌, Bool, true, false, ◌⊎◌, inl, inr, if◌then◌else◌, nat_lt, nat_le, List, [], ◌∷◌, Option, None, Some, length, refl, sym, subst, arith}
 use Rattle.std.proofs.lemmas.Bool.Decides.{nat_tests}
 use Rattle.abstract_protocol.specs.Book.{version_of, register_at}
-use Rattle.abstract_protocol.specs.Numbers as numbers
 use Rattle.abstract_protocol.specs.Numbers.{epoch_number}
 use Rattle.abstract_protocol.specs.Protocol.{State, Step, Begin, Ask, Raise, Elect, Accept, Commit, Adopt, Write, Acknowledge, Install, EndSync, Propose, Settle, Note, Answer, Lose, Revert, happens, MayCome, IsRun, state_after}
+use Rattle.abstract_protocol.proofs.Ranks.{version_within}
 use Rattle.byteorder.specs.Endian.{big_number}
 use Rattle.election_laws.proofs.Epochs.{not_both}
 use Rattle.ens_base.specs.Epochs.{same_version}
@@ -102,10 +102,6 @@ rank_of : (v : ℕ) → 0 < v → rank (version_of v) ≡ v
 unfolding version_of theory.version_at epoch_number
 rank_of v h = omega arith
 
-in_range : (v : ℕ) → numbers.IsVersion (version_of v)
-unfolding version_of
-in_range v = (omega arith, omega arith)
-
 module _ (view : List ℕ) (steps : List Step) (run : IsRun view steps) (asks : AsksFit (state_after view steps)) (epochs : EpochsFit (state_after view steps)) where
   abbrev s : State
   s = state_after view steps
@@ -114,7 +110,7 @@ module _ (view : List ℕ) (steps : List Step) (run : IsRun view steps) (asks : 
   proposed_fits : (v : ℕ) → s.objects.proposed v ≡ true → IsVersion (version_of v) × IsVersion (s.book.stamp v) × IsContent (s.book.content v)
   proposed_fits v is =
       let positive : 0 < v = above (s.objects.parent v) v ((run_versions view steps run).lineage v is).smaller in
-      let obeys = objects_obey view steps run asks epochs (version_of v) (in_range v) (subst (λ (n : ℕ). s.objects.proposed n ≡ true) (sym (rank_of v positive)) is) in
+      let obeys = objects_obey view steps run asks epochs (version_of v) (version_within v) (subst (λ (n : ℕ). s.objects.proposed n ≡ true) (sym (rank_of v positive)) is) in
       (obeys.version, subst (λ (n : ℕ). IsVersion (s.book.stamp n)) (rank_of v positive) obeys.stamp, subst (λ (n : ℕ). IsContent (s.book.content n)) (rank_of v positive) obeys.content)
     where
       above : (p v : ℕ) → p < v → 0 < v

@@ -1,8 +1,9 @@
 -- A schedule, the line `answers`, lines that may follow each other, and the histories, are read as a record.
-use Rattle.std.proofs.Common.{◌≡◌, ℕ, ◌+◌, ◌≤◌, ◌==◌, nat_lt, Bool, true, false, if◌then◌else◌, List, [], ◌∷◌, ◌++◌, length, codes, map, Option, Some, Result, Ok, Err, refl, sym, ap, subst, ◌∙◌, inl, inr, arith, lit≤, append_assoc, append-nil}
+use Rattle.std.proofs.Common.{◌≡◌, ℕ, ◌+◌, ◌≤◌, ◌==◌, Bool, true, false, if◌then◌else◌, List, [], ◌∷◌, ◌++◌, length, codes, map, Option, Some, Result, Ok, Err, refl, sym, ap, subst, ◌∙◌, inl, inr, arith, lit≤, append_assoc, append-nil}
 use Rattle.std.proofs.lemmas.Bool.Decides.{nat_tests}
 use Rattle.call_refinement.specs.Lines.{answers_in}
 use Rattle.std.proofs.lemmas.List.Concat.{flat_map-append}
+use Rattle.std.proofs.lemmas.Bool.{ne_eqb, le-ltb}
 use Rattle.std.specs.Fmt.{decimal}
 use Rattle.std.specs.List.{AllByRecursion, flat_map, list_any}
 use Rattle.ens_base.proofs.Lists.{bytes_same, bytes_itself, in-map}
@@ -23,6 +24,7 @@ use Rattle.schedule_words.specs.Spelling.{member_words}
 use Rattle.schedule_words.specs.Words.{parts_of}
 use Rattle.schedule_text.proofs.OneLine.{event_line-one, has-join, members_word}
 use Rattle.schedule_text.proofs.SchedulesAgain.{form_one, schedule_of-text}
+use Rattle.schedule_text.proofs.SchedulesRead.{and_then_ok}
 use Rattle.schedule_text.specs.Progress.{Progress, Blank, Titled, Counted, Running, lines_so_far}
 use Rattle.schedule_text.specs.Reading as schedule
 use Rattle.schedule_text.specs.Spelling.{AllMayStand, IsSchedule, event_line, schedule_lines, schedule_text}
@@ -128,10 +130,6 @@ schedule_line p q text e = by (same_bytes text answers_line) refl
     by true is = absurd (not_answers p q (subst (λ (t : List ℕ). schedule.next_line p t ≡ Ok q) (bytes_same text answers_line is) e))
     by false is = ap before e
 
-went_on : (r : Result Progress ScheduleError) (f : Progress → Result Schedule ScheduleError) (s : Schedule) → schedule.and_then r f ≡ Ok s → (q : Progress) × (r ≡ Ok q) × (f q ≡ Ok s)
-went_on (Ok q) f s h = (q, refl, h)
-went_on (Err e) f s h = cc h
-
 schedule_step : (p : Progress) (text : List ℕ) (more : List (List ℕ)) → schedule.read_parts p (text ∷ (more ++ [] ∷ [])) ≡ schedule.and_then (schedule.next_line p text) (λ q. schedule.read_parts q (more ++ [] ∷ []))
 schedule_step p text [] = refl
 schedule_step p text (x ∷ xs) = refl
@@ -140,19 +138,13 @@ schedule_read : (p : Progress) (texts : List (List ℕ)) (next : List ℕ) (rest
     → read_parts (Before p) (texts ++ (answers_line ∷ next ∷ rest)) ≡ read_parts (Behind (nothing_heard s)) (next ∷ rest)
 schedule_read p [] next rest s h = taken (Before p) (Behind (nothing_heard s)) answers_line [] next rest (ap opened h)
 schedule_read p (text ∷ more) next rest s h =
-    let q = went_on (schedule.next_line p text) (λ q. schedule.read_parts q (more ++ [] ∷ [])) s (sym (schedule_step p text more) ∙ h) in
+    let q = and_then_ok (schedule.next_line p text) (λ q. schedule.read_parts q (more ++ [] ∷ [])) s (sym (schedule_step p text more) ∙ h) in
     taken (Before p) (Before q.0) text more answers_line (next ∷ rest) (schedule_line p q.0 text q.1) ∙ schedule_read q.0 more next rest s q.2
 
 -- ## The printed lines
 
-not_below : (a b : ℕ) → b ≤ a → nat_lt a b ≡ false
-not_below a b h = grind (arith, nat_tests)
-
 pub itself : (n : ℕ) → (n == n) ≡ true
 itself n = grind (arith, nat_tests)
-
-pub differs : (a b : ℕ) → (a ≡ b → ⊥) → (a == b) ≡ false
-differs a b h = grind (arith, nat_tests)
 
 none_more : {A : Type 0} (test : A → Bool) (xs : List A) (x : A) → list_any test xs ≡ false → test x ≡ false → list_any test (xs ++ x ∷ []) ≡ false
 none_more test [] x h k = rw k refl
@@ -170,12 +162,12 @@ module _ (s : Schedule) (keys : List (List ℕ)) where
   answer_line_read : (n : ℕ) (answers : List Answer) (changes : List ℕ) (latest : ℕ) (a : Answer) → LineFits (lines.Answer a) → IsTimely s.events a → latest ≤ a.event → is_answered answers a.id ≡ false
       → next_stage (Behind (heard n answers changes latest)) (line_text (lines.Answer a)) ≡ Ok (Behind (heard (n + 1) (answers ++ a ∷ []) changes a.event))
   answer_line_read n answers changes latest a fits timely late new =
-      rw (answer_heard (heard n answers changes latest) a refl fits, new, timely.call, not_below a.event timely.called timely.after, not_below (length s.events) a.event timely.within, not_below a.event latest late) refl
+      rw (answer_heard (heard n answers changes latest) a refl fits, new, timely.call, le-ltb a.event timely.called timely.after, le-ltb (length s.events) a.event timely.within, le-ltb a.event latest late) refl
 
   change_line_read : (n : ℕ) (answers : List Answer) (changes : List ℕ) (latest event peer : ℕ) (was : Bool) → LineFits (lines.Change event peer was) → change_peer 1 s.events event ≡ Some peer → latest ≤ event → is_changed changes event ≡ false
       → next_stage (Behind (heard n answers changes latest)) (line_text (lines.Change event peer was)) ≡ Ok (Behind (heard (n + 1) answers (changes ++ event ∷ []) event))
   change_line_read n answers changes latest event peer was fits asked late new =
-      rw (change_heard (heard n answers changes latest) event peer was refl fits, new, asked, itself peer, not_below event latest late) refl
+      rw (change_heard (heard n answers changes latest) event peer was refl fits, new, asked, itself peer, le-ltb event latest late) refl
 
   printed_read : (n : ℕ) (answers : List Answer) (changes : List ℕ) (latest low high : ℕ) (printed : List Printed) (next : List ℕ) (rest : List (List ℕ))
       → Follow (change_peer 1 s.events) low high printed → AllByRecursion LineFits printed → ((a : Answer) → a ∈ answers_in printed → IsTimely s.events a) → AreDistinct (ids_of (answers_in printed))
@@ -185,7 +177,7 @@ module _ (s : Schedule) (keys : List (List ℕ)) where
       (n, changes, latest, ap (λ (given : List Answer). read_parts (Behind (heard n given changes latest)) (next ∷ rest)) (sym (append-nil answers)))
   printed_read n answers changes latest low high (lines.Answer a ∷ more) next rest follow fit timely once late fresh new =
       let later = printed_read (n + 1) (answers ++ a ∷ []) changes a.event a.event high more next rest follow.1 fit.1 (λ b m. timely b (inr m)) once.1 (omega arith) (λ e up. fresh e (omega (arith, follow.0, up)))
-      (λ b m. none_more (λ c. c.id == b.id) answers a (new b (inr m)) (differs a.id b.id (λ e. once.0 (subst (λ (i : ℕ). i ∈ ids_of (answers_in more)) (sym e) (in-map (λ (c : Answer). c.id) (answers_in more) b m))))) in
+      (λ b m. none_more (λ c. c.id == b.id) answers a (new b (inr m)) (ne_eqb a.id b.id (λ e. once.0 (subst (λ (i : ℕ). i ∈ ids_of (answers_in more)) (sym e) (in-map (λ (c : Answer). c.id) (answers_in more) b m))))) in
       let first = answer_line_read n answers changes latest a fit.0 (timely a (inl refl)) (omega (arith, late, follow.0)) (new a (inl refl)) in (
         later.0,
         later.1,
@@ -195,7 +187,7 @@ module _ (s : Schedule) (keys : List (List ℕ)) where
       )
   printed_read n answers changes latest low high (lines.Change event peer was ∷ more) next rest follow fit timely once late fresh new =
       let later = printed_read (n + 1) answers (changes ++ event ∷ []) event (event + 1) high more next rest follow.2 fit.1 timely once (omega arith)
-      (λ e up. none_more (λ d. d == e) changes event (fresh e (omega (arith, follow.0, up))) (differs event e (λ same. absurd (omega (arith, same, up))))) new in
+      (λ e up. none_more (λ d. d == e) changes event (fresh e (omega (arith, follow.0, up))) (ne_eqb event e (λ same. absurd (omega (arith, same, up))))) new in
       let first = change_line_read n answers changes latest event peer was fit.0 follow.1 (omega (arith, late, follow.0)) (fresh event follow.0) in
       (later.0, later.1, later.2, taken (Behind (heard n answers changes latest)) (Behind (heard (n + 1) answers (changes ++ event ∷ []) event)) (line_text (lines.Change event peer was)) (map line_text more) next rest first ∙ later.3)
 

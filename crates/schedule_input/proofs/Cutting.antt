@@ -1,8 +1,7 @@
 -- How much of a source was taken, and where it failed.
-use Rattle.std.proofs.Common.{◌≡◌, ◌≢◌, ◌≤◌, ◌<◌, ◌+◌, ◌⊎◌, ℕ, List, [], ◌∷◌, ◌++◌, length, Option, None, Some, Result, Ok, Err, inl, inr, refl, sym, ap, subst, ◌∙◌, append_assoc, length-append, arith}
+use Rattle.std.proofs.Common.{◌≡◌, ◌≤◌, ◌<◌, ◌+◌, ◌⊎◌, ℕ, List, [], ◌∷◌, ◌++◌, length, Option, None, Some, Result, Ok, Err, inl, inr, refl, sym, ap, ◌∙◌, append_assoc, length-append, arith}
 use Rattle.std.specs.Io.KnownBytes.{Consumes, Keeps, prepend_known}
 use Rattle.std.proofs.lemmas.Bool.{cases_order}
-use Rattle.std.proofs.lemmas.List.Elements.{All-nil}
 use Rattle.ens_outside.specs.Lines.{HasNoFeed, IsLine}
 use Rattle.ens_outside.specs.declared.lines.NextError.{NextError}
 use Rattle.ens_outside.specs.declared.lines.NextError.TheVariants as next
@@ -102,10 +101,6 @@ taken_last (Some all) (Some x) (Some y) was pending p kept few more h = record {
 pub next_failed : {T S : Type 0} (e : NextError) → ◌≡◌ {A = Result T ReadError} (Err (of_next e)) (Err read.Failed) → ◌≡◌ {A = Result S NextError} (Err e) (Err next.Failed)
 next_failed next.Failed is = refl
 next_failed next.Memory is = absurd (cc is)
-
--- nothing is a line without its line feed
-pub nothing_pending : (pending : List ℕ) → pending ≡ [] → IsLine pending
-nothing_pending pending none = subst IsLine (sym none) (record { no_feed = All-nil (λ b. b ≢ 10); short = omega arith })
 
 -- the source failed where these bytes are pending
 pub cut_off : (source old left : Option (List ℕ)) (was pending : List ℕ) (p : Progress) → HasTaken source was old p → Keeps (prepend_known was old) (prepend_known pending left) → IsLine pending → lines_so_far p ≤ 200000 → (lines_so_far p ≡ 200000 → pending ≡ []) → WasCutOff source left

@@ -10,7 +10,6 @@ use Rattle.schedule_words.specs.Causes.{or_cause}
 use Rattle.schedule_words.specs.Words.{parts_of, words_of}
 use Rattle.schedule_words.specs.declared.cause.Cause.{Cause}
 use Rattle.schedule_words.specs.declared.cause.Cause.TheVariants.{TooLong, Unfinished, Repeated, Heading}
-use Rattle.schedule_text.specs.Errors.{at_line}
 use Rattle.schedule_text.specs.Events.{event_of, line_limit}
 use Rattle.schedule_text.specs.Progress.{Progress, Blank, Titled, Counted, Running, lines_so_far, is_repeated}
 use Rattle.schedule_text.specs.Reading.{next_line, with_line, bounded, at_next, ended, and_then, read_parts, most_lines, peers_of, opening_of, TakesLine}
@@ -19,6 +18,8 @@ use Rattle.schedule_text.specs.declared.error.ScheduleError.{ScheduleError}
 use Rattle.schedule_text.specs.declared.error.ScheduleError.TheVariants.{Bad, Lines, Memory}
 use Rattle.schedule_text.specs.declared.schedule.Schedule.{Schedule}
 use Rattle.schedule_text.specs.declared.event.ScheduleEvent.{ScheduleEvent}
+use Rattle.schedule_text.proofs.EventsRead.{short_enough}
+use Rattle.schedule_text.proofs.SchedulesRead.{at_line_ok}
 use Rattle.schedule_input.specs.declared.read.ReadError.{ReadError}
 use Rattle.schedule_input.specs.declared.read.ReadError.TheVariants as read
 use Rattle.schedule_input.specs.Reading.{ReadsAs, ReadsOn, Refuses, of_schedule}
@@ -49,7 +50,7 @@ refuses_line a b p new v Lines clear took bad = line_refused a b p v Lines clear
 refuses_line a b p new v Memory clear took bad = tt
 
 -- a line that is too long
-too_long : {A : Type 0} (t : List ℕ) (r : Result A Cause) → 4400 < length t → bounded t r ≡ Err TooLong
+pub too_long : {A : Type 0} (t : List ℕ) (r : Result A Cause) → 4400 < length t → bounded t r ≡ Err TooLong
 too_long t r long = by_test (nat_lt line_limit (length t)) (grind (arith, nat_tests, long))
   where
     by_test : (b : Bool) → b ≡ true → (if b then Err TooLong else r) ≡ Err TooLong
@@ -155,14 +156,6 @@ from_bind : {A B G : Type 0} (r : Result A Cause) (f : A → Result B Cause) (q 
 from_bind (Ok x) f q h go = go x h
 from_bind (Err c) f q h go = absurd cc
 
-from_line : {A : Type 0} (n : ℕ) (r : Result A Cause) (q : A) → at_line n r ≡ Ok q → r ≡ Ok q
-from_line n (Ok x) q h = cc
-from_line n (Err c) q h = absurd cc
-
-from_bounds : {A : Type 0} (b : Bool) (r : Result A Cause) (q : A) → (if b then Err TooLong else r) ≡ Ok q → r ≡ Ok q
-from_bounds true r q h = absurd cc
-from_bounds false r q h = h
-
 from_test : (b : Bool) (r : Result Progress ScheduleError) (q : Progress) → (if b then Err Lines else r) ≡ Ok q → r ≡ Ok q
 from_test true r q h = absurd cc
 from_test false r q h = h
@@ -178,13 +171,7 @@ one_more (Running form peers view events) q t h = from_bind (event_of peers t) (
     logged event false e = let is : Running form peers view (events ++ event ∷ []) ≡ q = cc in sym (ap lines_so_far is) ∙ omega (arith, length-append events (event ∷ []))
 
 pub line_counts : (p q : Progress) (t : List ℕ) → next_line p t ≡ Ok q → lines_so_far q ≡ lines_so_far p + 1
-line_counts p q t ok = one_more p q t (from_bounds (nat_lt line_limit (length t)) (with_line p t) q (from_line (lines_so_far p + 1) (bounded t (with_line p t)) q (from_test (lines_so_far p == most_lines) (at_next p (bounded t (with_line p t))) q ok)))
-
--- if nothing is pending or left, nothing is left
-pub ended_left : (pending : List ℕ) (left : Option (List ℕ)) → IsAtEnd (prepend_known pending left) → IsAtEnd left
-ended_left pending None h = tt
-ended_left [] (Some y) h = h
-ended_left (x ∷ pending) (Some y) h = let never : x ∷ (pending ++ y) ≡ [] = h in absurd cc
+line_counts p q t ok = one_more p q t (short_enough (nat_lt line_limit (length t)) (with_line p t) q (at_line_ok (lines_so_far p + 1) (bounded t (with_line p t)) q (from_test (lines_so_far p == most_lines) (at_next p (bounded t (with_line p t))) q ok)))
 
 -- a text ends as a schedule only after a line feed
 pub ended_ok : (p : Progress) (rest : List ℕ) (s : Schedule) → ended p rest ≡ Ok s → ended p [] ≡ Ok s

@@ -1,5 +1,5 @@
 -- What became of a peer that serves is a life.
-use Rattle.std.proofs.Common.{◌≡◌, ◌⊎◌, ◌≤◌, ◌<◌, ◌+◌, ◌++◌, ℕ, suc, Bool, true, false, List, [], ◌∷◌, length, Option, None, Some, append-nil, arith, refl, sym, ap, ◌∙◌, subst, inl, inr}
+use Rattle.std.proofs.Common.{◌≡◌, ◌⊎◌, ◌≤◌, ◌<◌, ◌+◌, ◌++◌, ℕ, suc, Bool, true, false, List, [], ◌∷◌, length, Option, None, Some, arith, refl, sym, ap, ◌∙◌, subst, inl, inr}
 use Rattle.std.proofs.lemmas.List.{length-append}
 use Rattle.ens_base.proofs.Lists.{in_append, in_left, in_right}
 use Rattle.ens_base.specs.Lists.{◌∈◌}
@@ -14,8 +14,9 @@ use Rattle.peer_serve.specs.declared.disks.Disks.{Disks}
 use Rattle.peer_state.specs.declared.event.Event.{Event}
 use Rattle.step_plans.specs.Calls.{Call, AnswerOf}
 use Rattle.step_plans.specs.declared.error.PeerError.{PeerError}
-use Rattle.turn_spec.specs.Going.{Grew, Point}
+use Rattle.turn_spec.specs.Going.{Point}
 use Rattle.turn_spec.specs.Turns.{Turn, event_of, events_of, listed, looks_of, tick_if}
+use Rattle.turn_spec.proofs.Following.{grew_none}
 use Rattle.served_lives.specs.Lives.{IsCutOff}
 use Rattle.served_lives.specs.Served.{IsTickOrFrame, HasLived}
 
@@ -75,10 +76,6 @@ looks_many [] = refl
 looks_many (t ∷ turns) = ap suc (looks_many turns)
 
 -- ## Ends
-
-grew_none : {A : Type 0} (o : Option (List A)) → Grew o o []
-grew_none None = tt
-grew_none (Some old) = sym (ap Some (append-nil old))
 
 module _ {P L : Type 0} (does : P → (call : Call) → AnswerOf call → P → Type 0) (refuses : P → Call → PeerError → P → Type 0)
     (sent : L → Option (List (ℕ × List ℕ))) (given : L → Option (List (Option (List ℕ)))) (w : PeerWords) where

@@ -4,6 +4,7 @@ use Rattle.std.proofs.Common.{◌≡◌, ◌<◌, ◌+◌, ◌∙◌, ◌==◌, 
 use Rattle.std.proofs.lemmas.Bool.{false≢true, eqb-false}
 use Rattle.std.proofs.lemmas.Bool.Decides.{nat_tests}
 use Rattle.std.proofs.lemmas.List.{get_or-set_same, get_or-set_other}
+use Rattle.std.proofs.Math.Bool.{or-false}
 use Rattle.ens_base.proofs.Lists.{tested_in}
 use Rattle.ens_base.proofs.Orders.{version_itself}
 use Rattle.ens_base.specs.Epochs.{same_version}
@@ -52,6 +53,7 @@ use Rattle.leading.specs.declared.pending.Pending.{Pending}
 use Rattle.leading.specs.declared.pending.Pending.TheVariants as tasks
 use Rattle.leading_laws.proofs.Lookups.{row_here, stage_here}
 use Rattle.leading_laws.proofs.Votes.{none_held}
+use Rattle.leading_laws.proofs.Sends.{itself}
 use Rattle.serving_laws.proofs.KeepsWhole.{begun_counts, heard_counts}
 
 -- ## Quorums depend on members alone
@@ -91,15 +93,11 @@ unfolding heard_from
 answered_votes views round from p counts peer is =
     vote_of round.tally.views round.tally.votes from p (is_member round.tally.views from) refl (omega (arith, counts.flags, peer.1)) (subst (λ (vs : List (List ℕ)). is_member vs p ≡ true) (sym counts.on) is)
 
-or_false : (b : Bool) → (b || false) ≡ b
-or_false true = refl
-or_false false = refl
-
 pub begun_votes : (views : List (List ℕ)) (me p : ℕ) → IsPeer me → is_member views p ≡ true → holds (begun views me).tally.votes p ≡ (p == me)
 unfolding begun
 begun_votes views me p peer is =
     answered_votes views (record { tally = record { views = views; votes = replicate 32 false } }) me p (record { on = refl; flags = refl }) peer is
-    ∙ ap (λ (b : Bool). p == me || b) (none_held 32 p) ∙ or_false (p == me)
+    ∙ ap (λ (b : Bool). p == me || b) (none_held 32 p) ∙ or-false (p == me)
 
 -- a round in which a quorum has voted is not open
 pub not_open : (views : List (List ℕ)) (round : Round) → round.tally.views ≡ views → is_quorum (holds round.tally.votes) views ≡ true → state_of round ≡ Open → ⊥
@@ -144,11 +142,8 @@ going_on key l w AllAnswered round votes reply closed = is_answered w reply key 
 pub epoch_itself : (e : Epoch) → is_same e e ≡ true
 epoch_itself e = grind (arith, nat_tests)
 
-number_itself : (n : ℕ) → (n == n) ≡ true
-number_itself n = grind (arith, nat_tests)
-
 pub counted : (round : ℕ) (l : Leader) → counts l.fact.epoch round round l ≡ true
-counted round l = ap (λ (b : Bool). b && round == round) (epoch_itself l.fact.epoch) ∙ number_itself round
+counted round l = ap (λ (b : Bool). b && round == round) (epoch_itself l.fact.epoch) ∙ itself round
 
 pub check_replied : (from round : ℕ) (votes : Round) (reply : Reply) (key : List ℕ) (w : Waiting) (l : Leader) → IsWhole l → running key l.table.calls ≡ Some w → (row_at key l.table.rows).stage ≡ stages.Checking round votes reply
     → MakesQuorum from votes l → IsAnswered w reply (Read w.id key (base key l) ∷ []) key l (row_33_reply from l.fact.epoch round l)

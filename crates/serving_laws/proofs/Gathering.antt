@@ -1,6 +1,6 @@
 -- The replies of a round of reading, and what they come to.
 use Rattle.std.proofs.Common.{◌≡◌, ◌≢◌, ◌∙◌, ◌==◌, ◌&&◌, ◌||◌, ap, sym, refl, subst, inl, inr, ℕ, Bool, true, false, if◌then◌else◌, List, [], ◌∷◌, Option, Some, None, arith}
-use Rattle.std.proofs.lemmas.Bool.{false≢true, and_parts}
+use Rattle.std.proofs.lemmas.Bool.{false≢true, and_parts, eqb-true}
 use Rattle.std.proofs.lemmas.Bool.Decides.{nat_tests}
 use Rattle.std.specs.Ordering.{on, then_cmp, ordering_reverse}
 use Rattle.std.specs.Cmp.{IsTotalOrder}
@@ -108,16 +108,13 @@ one_more_reply from round key entry object replies l whole peer h =
 same_epochs : (a b : Epoch) → is_same a b ≡ true → a ≡ b
 same_epochs a b h = grind (arith, nat_tests)
 
-same_numbers : (a b : ℕ) → (a == b) ≡ true → a ≡ b
-same_numbers a b h = grind (arith, nat_tests)
-
 pub other_reply : (from at round : ℕ) (ballot : Epoch) (key : List ℕ) (entry : Option Entry) (object : Option Object) (replies : List GetReply) (l : Leader) → IsReading key round replies l
     → ¬ ((ballot ≡ l.fact.epoch) × (at ≡ round)) → row_29_reply from ballot at key entry object l ≡ idle l
 other_reply from at round ballot key entry object replies l h not_it =
     subst (λ (s : Stage). heard s from ballot at key entry object l ≡ idle l) (sym h.stage) (by_test (counts ballot at round l) refl)
   where
     by_test : (b : Bool) → counts ballot at round l ≡ b → (if b then (stands key (stages.Reading round (heard_from from h.votes) (better h.best entry object)) l, leads_on key_rules.EnoughReplies key) else idle l) ≡ idle l
-    by_test true e = let parts = and_parts (is_same ballot l.fact.epoch) (at == round) e in absurd (not_it (same_epochs ballot l.fact.epoch parts.0, same_numbers at round parts.1))
+    by_test true e = let parts = and_parts (is_same ballot l.fact.epoch) (at == round) e in absurd (not_it (same_epochs ballot l.fact.epoch parts.0, eqb-true at round parts.1))
     by_test false e = refl
 
 -- ## The state of the round

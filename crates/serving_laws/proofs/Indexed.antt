@@ -1,6 +1,7 @@
 -- The index of checks after a change at one key.
 use Rattle.std.proofs.Common.{◌≡◌, ◌≤◌, ◌<◌, ◌⊎◌, ◌+◌, ◌∙◌, ap, sym, refl, subst, inl, inr, ℕ, Bool, true, false, cond, List, [], ◌∷◌, Option, Some, None, Ordering, is_eq, arith}
 use Rattle.std.proofs.lemmas.Bool.{cases_order, true≢false}
+use Rattle.std.proofs.lemmas.Option.{same_Some}
 use Rattle.std.specs.BTreeMap.{is_at, insert_entry}
 use Rattle.std.specs.Map.{lookup, remove_entry}
 use Rattle.std.specs.Ordering.{nat_cmp, match_ordering}
@@ -126,9 +127,6 @@ raised : (low high more : ℕ) (checks : Checks) → high ≤ more → AreRounds
 raised low high more [] h rounds = tt
 raised low high more (c ∷ checks) h rounds = (rounds.0, omega (arith, h, rounds.1), raised (c.0 + 1) high more checks h rounds.2)
 
-same_some : {A : Type 0} (a b : A) → Some a ≡ Some b → a ≡ b
-same_some a b e = cc
-
 -- the same checks, and each key as far as before
 pub index_stays : (n m : ℕ) (t u : CallTable) → n ≤ m → u.checks ≡ t.checks → ((k : List ℕ) → check_round (row_at k u.rows).stage ≡ check_round (row_at k t.rows).stage) → IsIndexed n t → IsIndexed m u
 index_stays n m t u le checks same index = record {
@@ -150,7 +148,7 @@ module _ (key : List ℕ) (t u : CallTable) (n : ℕ) (index : IsIndexed n t) (o
       found : (k : List ℕ) (r : ℕ) (b : Bool) → same_bytes key k ≡ b → check_round (row_at k u.rows).stage ≡ Some r → check_at r (with_check r0 key t.checks) ≡ Some k
       found k r true on e =
           let same : key ≡ k = bytes_same key k on in
-          let round : r0 ≡ r = same_some r0 r (sym (subst (λ (q : List ℕ). check_round (row_at q u.rows).stage ≡ Some r0) same begins) ∙ e) in
+          let round : r0 ≡ r = same_Some r0 r (sym (subst (λ (q : List ℕ). check_round (row_at q u.rows).stage ≡ Some r0) same begins) ∙ e) in
           subst (λ (s : ℕ). check_at s (with_check r0 key t.checks) ≡ Some k) round (inserted_here 0 n r0 key t.checks after index.rounds ∙ ap Some same)
       found k r false off e =
           let before : check_at r t.checks ≡ Some k = index.found k r (sym (others k off) ∙ e) in
@@ -163,7 +161,7 @@ module _ (key : List ℕ) (t u : CallTable) (n : ℕ) (index : IsIndexed n t) (o
 
       only : (k : List ℕ) (r : ℕ) → (r ≡ r0) ⊎ ((r < r0) ⊎ (r0 < r)) → check_at r (with_check r0 key t.checks) ≡ Some k → check_round (row_at k u.rows).stage ≡ Some r
       only k r (inl same) e =
-          let is : key ≡ k = same_some key k (sym (inserted_here 0 n r0 key t.checks after index.rounds) ∙ subst (λ (s : ℕ). check_at s (with_check r0 key t.checks) ≡ Some k) same e) in
+          let is : key ≡ k = same_Some key k (sym (inserted_here 0 n r0 key t.checks after index.rounds) ∙ subst (λ (s : ℕ). check_at s (with_check r0 key t.checks) ≡ Some k) same e) in
           subst (λ (q : List ℕ). check_round (row_at q u.rows).stage ≡ Some r) is (begins ∙ ap Some (sym same))
       only k r (inr (inl less)) e = other k r (same_bytes key k) refl (index.only k r (sym (inserted_other 0 n r0 r key t.checks after less index.rounds) ∙ e))
       only k r (inr (inr more)) e =
@@ -191,13 +189,13 @@ module _ (key : List ℕ) (t u : CallTable) (n : ℕ) (index : IsIndexed n t) (o
           found k r true on e = let none : None ≡ Some r = sym (subst (λ (q : List ℕ). check_round (row_at q u.rows).stage ≡ None) (bytes_same key k on) rests) ∙ e in absurd cc
           found k r false off e =
               let before : check_at r t.checks ≡ Some k = index.found k r (sym (others k off) ∙ e) in
-              removed_other r0 r t.checks (λ same. apart k off (same_some key k (sym (index.found key r0 held) ∙ subst (λ (s : ℕ). check_at s t.checks ≡ Some k) (sym same) before))) ∙ before
+              removed_other r0 r t.checks (λ same. apart k off (same_Some key k (sym (index.found key r0 held) ∙ subst (λ (s : ℕ). check_at s t.checks ≡ Some k) (sym same) before))) ∙ before
             where
               apart : (k : List ℕ) → same_bytes key k ≡ false → key ≡ k → ⊥
               apart k off same = true≢false (sym (bytes_itself key) ∙ ap (same_bytes key) same ∙ off)
 
           other : (k : List ℕ) (r : ℕ) (b : Bool) → same_bytes key k ≡ b → (r ≡ r0 → ⊥) → check_round (row_at k t.rows).stage ≡ Some r → check_round (row_at k u.rows).stage ≡ Some r
-          other k r true on apart e = absurd (apart (same_some r r0 (sym e ∙ subst (λ (q : List ℕ). check_round (row_at q t.rows).stage ≡ Some r0) (bytes_same key k on) held)))
+          other k r true on apart e = absurd (apart (same_Some r r0 (sym e ∙ subst (λ (q : List ℕ). check_round (row_at q t.rows).stage ≡ Some r0) (bytes_same key k on) held)))
           other k r false off apart e = others k off ∙ e
 
           left : (k : List ℕ) (r : ℕ) → (r0 ≡ r → ⊥) → check_at r (without_check (Some r0) t.checks) ≡ Some k → check_round (row_at k u.rows).stage ≡ Some r

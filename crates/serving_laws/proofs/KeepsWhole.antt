@@ -1,6 +1,6 @@
 -- Each rule keeps the table of a leader whole.
 use Rattle.std.specs.Prelude.{All, slice_set, replicate}
-use Rattle.std.proofs.Common.{◌≡◌, ◌≤◌, ◌<◌, ◌+◌, ◌∙◌, ◌&&◌, ap, sym, refl, subst, ℕ, Bool, true, false, is_none, nat_le, length, if◌then◌else◌, List, [], ◌∷◌, ◌++◌, Option, Some, None, is_some, arith}
+use Rattle.std.proofs.Common.{◌≡◌, ◌≤◌, ◌<◌, ◌+◌, ◌∙◌, ◌&&◌, ap, sym, refl, subst, ℕ, Bool, true, false, is_none, nat_le, length, if◌then◌else◌, List, [], ◌∷◌, ◌++◌, Option, Some, None, is_some, arith, le_refl}
 use Rattle.std.proofs.lemmas.Bool.{false≢true}
 use Rattle.std.proofs.lemmas.List.{length-set}
 use Rattle.std.proofs.lemmas.List.Elements.{All-nil, All-cons}
@@ -138,9 +138,6 @@ one_later n = omega arith
 pub whole_round : (l : Leader) → IsWhole l → IsWhole (record l { round = l.round + 1 })
 whole_round l h = record { stages = h.stages; task = h.task; index = index_stays l.round (l.round + 1) l.table l.table (one_later l.round) refl (λ k. refl) h.index }
 
-same_number : (n : ℕ) → n ≤ n
-same_number n = omega arith
-
 known_round : (key k : List ℕ) (known : Known) (rows : Rows) → check_round (row_at k (with_known key known rows)).stage ≡ check_round (row_at k rows).stage
 known_round key k known rows = known_then (λ (s : Stage). check_round s ≡ check_round (row_at k rows).stage) key k known rows refl
 
@@ -148,7 +145,7 @@ pub whole_knows : (key : List ℕ) (known : Known) (l : Leader) → IsWhole l �
 whole_knows key known l h = record {
   stages = λ k. known_then (IsStage l.fact.views) key k known l.table.rows (h.stages k);
   task = h.task;
-  index = index_stays l.round l.round l.table (knows key known l).table (same_number l.round) refl (λ k. known_round key k known l.table.rows) h.index;
+  index = index_stays l.round l.round l.table (knows key known l).table (le_refl l.round) refl (λ k. known_round key k known l.table.rows) h.index;
 }
 
 clear_knows : (key : List ℕ) (known : Known) (l : Leader) → IsClear l key → IsClear (knows key known l) key
@@ -168,7 +165,7 @@ pub whole_stands : (key : List ℕ) (stage : Stage) (l : Leader) → IsStage l.f
 whole_stands key stage l is same h = record {
   stages = λ k. stages_then (IsStage l.fact.views) key k stage l.table.rows is (h.stages k);
   task = h.task;
-  index = index_stays l.round l.round l.table (stands key stage l).table (same_number l.round) refl (λ k. stage_round key k stage l.table.rows (same_bytes key k) refl same) h.index;
+  index = index_stays l.round l.round l.table (stands key stage l).table (le_refl l.round) refl (λ k. stage_round key k stage l.table.rows (same_bytes key k) refl same) h.index;
 }
 
 clear_stands : (key : List ℕ) (stage : Stage) (l : Leader) → check_round stage ≡ None → IsClear (stands key stage l) key

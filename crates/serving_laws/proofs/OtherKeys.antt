@@ -28,8 +28,8 @@ use Rattle.leading.specs.Ticks.{Finishing, is_late, aged, timed_out, row_5_calls
 use Rattle.leading.specs.declared.leader.Leader.{Leader}
 use Rattle.serving_laws.specs.Answers.{IsRunningDue}
 use Rattle.leading_laws.proofs.Lookups.{stage_other}
+use Rattle.leading_laws.proofs.TimeOuts.{without_due_rows, HasKey}
 use Rattle.leading.proofs.Cases.{either}
-use Rattle.serving_laws.proofs.Resting.{HasKey, without_due_rows}
 
 -- ## Replies to checks
 

@@ -1,6 +1,6 @@
 -- Calls that join, and ticks, keep the table of a leader whole.
 use Rattle.std.specs.Prelude.{All}
-use Rattle.std.proofs.Common.{◌≡◌, ◌≤◌, ◌+◌, ◌==◌, ◌||◌, ◌∙◌, ap, sym, refl, subst, inl, inr, ℕ, Bool, true, false, map, nat_le, if◌then◌else◌, List, [], ◌∷◌, ◌++◌, Option, Some, None, eqb-true, arith}
+use Rattle.std.proofs.Common.{◌≡◌, ◌+◌, ◌==◌, ◌||◌, ◌∙◌, ap, sym, refl, subst, inl, inr, ℕ, Bool, true, false, map, nat_le, if◌then◌else◌, List, [], ◌∷◌, ◌++◌, Option, Some, None, eqb-true, arith, le_refl}
 use Rattle.std.proofs.lemmas.Bool.{false≢true}
 use Rattle.std.proofs.lemmas.List.Elements.{All-nil, All-cons}
 use Rattle.ens_base.specs.Lists.{same_bytes}
@@ -28,8 +28,9 @@ use Rattle.serving_laws.specs.Whole.{IsStage, IsIndexed, IsWhole, IsClear, Stays
 use Rattle.leading.specs.declared.leader.Leader.{Leader}
 use Rattle.serving_laws.proofs.Indexed.{index_stays, index_ends}
 use Rattle.leading_laws.proofs.Lookups.{stage_other, stage_here}
+use Rattle.leading_laws.proofs.TimeOuts.{without_due_rows, due_then, all_rested, HasKey}
 use Rattle.leading.proofs.Cases.{either}
-use Rattle.serving_laws.proofs.Resting.{key_list, keys_of_due, timed_out_keys, HasKey, all_rested, without_due_rows, due_then}
+use Rattle.serving_laws.proofs.Resting.{key_list, keys_of_due, timed_out_keys}
 use Rattle.serving_laws.proofs.KeepsWhole.{so_rests, so_goes}
 
 -- ## A new leader
@@ -40,12 +41,9 @@ new_whole fact me accepts = record { stages = λ k. tt; task = tt; index = recor
 
 -- ## A call joins
 
-same_number : (n : ℕ) → n ≤ n
-same_number n = omega arith
-
 -- the calls change, and nothing else
 whole_calls : (l : Leader) (calls : List Waiting) → IsWhole l → IsWhole (record l { table = record l.table { calls = calls } })
-whole_calls l calls h = record { stages = h.stages; task = h.task; index = index_stays l.round l.round l.table (record l.table { calls = calls }) (same_number l.round) refl (λ k. refl) h.index }
+whole_calls l calls h = record { stages = h.stages; task = h.task; index = index_stays l.round l.round l.table (record l.table { calls = calls }) (le_refl l.round) refl (λ k. refl) h.index }
 
 nobody_waits : (key : List ℕ) (calls : List Waiting) → waiting_on key calls ≡ 0 → running key calls ≡ None
 nobody_waits key [] e = refl
@@ -85,7 +83,7 @@ all_index (d ∷ ds) t n index = by_key d.running (all_index ds)
 
 due_index : (t : CallTable) (n : ℕ) → IsIndexed n t → IsIndexed n (without_due t)
 unfolding without_due
-due_index t n index = index_stays n n (rested_all (due t.calls) t) (without_due t) (same_number n) refl (λ k. refl) (all_index (due t.calls) t n index)
+due_index t n index = index_stays n n (rested_all (due t.calls) t) (without_due t) (le_refl n) refl (λ k. refl) (all_index (due t.calls) t n index)
 
 -- what holds of the keys of calls that are due holds of each key that is named
 all_keys : (P : List ℕ → Type 0) (ds : List DueCall) → ((k : List ℕ) → HasKey k ds → P k) → All P (keys_of_due ds)

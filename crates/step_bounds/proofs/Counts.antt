@@ -1,6 +1,6 @@
 -- How many calls each row leaves unanswered.
 use Rattle.std.specs.Prelude.{filter}
-use Rattle.std.proofs.Common.{◌≡◌, ◌≤◌, ◌==◌, ◌&&◌, ◌||◌, lit≤, refl, sym, subst, cond, not, nat_le, arith, length, map, ℕ, suc, Bool, true, false, if◌then◌else◌, List, [], ◌∷◌, ◌++◌, Option, Some, None}
+use Rattle.std.proofs.Common.{◌≡◌, ◌≤◌, ◌==◌, ◌&&◌, ◌||◌, lit≤, refl, sym, subst, cond, not, nat_le, arith, length, map, ℕ, suc, Bool, true, false, if◌then◌else◌, List, [], ◌∷◌, ◌++◌, Option, Some, None, le_refl}
 use Rattle.ens_base.specs.Lists.{same_bytes}
 use Rattle.ens_base.specs.declared.command.Command.{Command}
 use Rattle.ens_base.specs.declared.entry.Entry.{Entry}
@@ -58,9 +58,6 @@ use Rattle.step_bounds.specs.Reached.{unanswered}
 abbrev pub count : Phase → ℕ
 count phase = length (unanswered phase)
 
-pub itself : (n : ℕ) → n ≤ n
-itself n = omega arith
-
 pub least : (n : ℕ) → 0 ≤ n
 least n = omega arith
 
@@ -83,7 +80,7 @@ stopped_few (phases.Electing e) = lit≤ tt
 
 pub left_few : (leave : Bool) (x : State) → count (left leave x).phase ≤ count x.phase
 left_few true x = stopped_few x.phase
-left_few false x = itself (count x.phase)
+left_few false x = le_refl (count x.phase)
 
 given_up_few : (e : Election) → count (without_candidacy (phases.Electing e)) ≤ 0
 given_up_few (Starting new accepts age) = lit≤ tt
@@ -96,18 +93,18 @@ untrusted_few (phases.Probing p) = lit≤ tt
 untrusted_few (phases.Electing e) = given_up_few e
 
 pub turned_few : (me : ℕ) (t : Then) (x : State) → count (turned me t x).phase ≤ count x.phase
-turned_few me thens.Stay x = itself (count x.phase)
+turned_few me thens.Stay x = le_refl (count x.phase)
 turned_few me thens.Follow x = least (count x.phase)
 turned_few me (thens.Lead fact) x = least (count x.phase)
 turned_few me thens.Untrust x = untrusted_few x.phase
-turned_few me thens.Put x = itself (count x.phase)
-turned_few me thens.Resume x = itself (count x.phase)
-turned_few me (thens.SyncOn fact) x = itself (count x.phase)
-turned_few me (thens.Rule n) x = itself (count x.phase)
-turned_few me (thens.OnKeys n) x = itself (count x.phase)
+turned_few me thens.Put x = le_refl (count x.phase)
+turned_few me thens.Resume x = le_refl (count x.phase)
+turned_few me (thens.SyncOn fact) x = le_refl (count x.phase)
+turned_few me (thens.Rule n) x = le_refl (count x.phase)
+turned_few me (thens.OnKeys n) x = le_refl (count x.phase)
 
 waiting_phase_few : (phase : Phase) → count (waiting_phase phase) ≤ count phase
-waiting_phase_few (phases.Leading l) = itself (length l.leader.table.calls)
+waiting_phase_few (phases.Leading l) = le_refl (length l.leader.table.calls)
 waiting_phase_few (phases.Following f) = lit≤ tt
 waiting_phase_few (phases.Probing p) = lit≤ tt
 waiting_phase_few (phases.Electing e) = lit≤ tt
@@ -115,36 +112,36 @@ waiting_phase_few (phases.Electing e) = lit≤ tt
 waiting_few : (t : Then) (x : State) → count (waiting_for t x).phase ≤ count x.phase
 waiting_few (thens.SyncOn fact) x = waiting_phase_few x.phase
 waiting_few thens.Resume x = waiting_phase_few x.phase
-waiting_few thens.Stay x = itself (count x.phase)
-waiting_few thens.Follow x = itself (count x.phase)
-waiting_few (thens.Lead fact) x = itself (count x.phase)
-waiting_few thens.Untrust x = itself (count x.phase)
-waiting_few thens.Put x = itself (count x.phase)
-waiting_few (thens.Rule n) x = itself (count x.phase)
-waiting_few (thens.OnKeys n) x = itself (count x.phase)
+waiting_few thens.Stay x = le_refl (count x.phase)
+waiting_few thens.Follow x = le_refl (count x.phase)
+waiting_few (thens.Lead fact) x = le_refl (count x.phase)
+waiting_few thens.Untrust x = le_refl (count x.phase)
+waiting_few thens.Put x = le_refl (count x.phase)
+waiting_few (thens.Rule n) x = le_refl (count x.phase)
+waiting_few (thens.OnKeys n) x = le_refl (count x.phase)
 
 -- the row leaves no more calls than there were before
 abbrev HasNoMore : State → State × PhaseOut → Type 0
 HasNoMore x r = count r.0.phase ≤ count x.phase
 
 same_few : (x : State) → count x.phase ≤ count x.phase
-same_few x = itself (count x.phase)
+same_few x = le_refl (count x.phase)
 
 stood_few : (election : Option Election) (x : State) → count (stood election x).phase ≤ count x.phase
 stood_few None x = same_few x
 stood_few (Some e) x = least (count x.phase)
 
 finishing_few : (f : Option Finishing) (l : Leadership) → length (finishing f l).leader.table.calls ≤ length l.leader.table.calls
-finishing_few None l = itself (length l.leader.table.calls)
-finishing_few (Some f) l = itself (length l.leader.table.calls)
+finishing_few None l = le_refl (length l.leader.table.calls)
+finishing_few (Some f) l = le_refl (length l.leader.table.calls)
 
 begun_change_few : (change : ChangeState) (l : Leadership) (fact : Fact) (me : ℕ) → length (begun_change change l fact me).0.leader.table.calls ≤ length l.leader.table.calls
 begun_change_few (Wanted change) l fact me = finishing_few (row_25 fact me l.leader.accepts change).1 l
-begun_change_few Settled l fact me = itself (length l.leader.table.calls)
-begun_change_few (Finishes f) l fact me = itself (length l.leader.table.calls)
+begun_change_few Settled l fact me = le_refl (length l.leader.table.calls)
+begun_change_few (Finishes f) l fact me = le_refl (length l.leader.table.calls)
 
 led_less : (l : Leadership) (x : State) → x.phase ≡ phases.Leading l → length l.leader.table.calls ≤ count x.phase
-led_less l x is = rw is (itself (length l.leader.table.calls))
+led_less l x is = rw is (le_refl (length l.leader.table.calls))
 
 pub phase_row_few : (rule : PhaseRule) (me : ℕ) (x : State) → HasNoMore x (phase_row rule me x)
 phase_row_few phase_rules.BeginProbing me x = least (count x.phase)
@@ -192,15 +189,15 @@ asked_few view x = either (λ (y : State). count y.phase ≤ count x.phase) (row
 -- ## A leader
 
 without_few : (key : List ℕ) (calls : List Waiting) → length (without_running key calls) ≤ length calls
-without_few key [] = itself 0
+without_few key [] = le_refl 0
 without_few key (v ∷ calls) = by (same_bytes v.key key) (without_few key calls)
   where
     by : (b : Bool) → length (without_running key calls) ≤ length calls → length (if b then calls else v ∷ without_running key calls) ≤ suc (length calls)
-    by true less = one_less (length calls) (length calls) (itself (length calls))
+    by true less = one_less (length calls) (length calls) (le_refl (length calls))
     by false less = both (length (without_running key calls)) (length calls) less
 
 filtered_few : (keep : Waiting → Bool) (calls : List Waiting) → length (filter keep calls) ≤ length calls
-filtered_few keep [] = itself 0
+filtered_few keep [] = le_refl 0
 filtered_few keep (v ∷ calls) = by (keep v) (filtered_few keep calls)
   where
     by : (b : Bool) → length (filter keep calls) ≤ length calls → length (cond b (v ∷ filter keep calls) (filter keep calls)) ≤ suc (length calls)
@@ -208,11 +205,11 @@ filtered_few keep (v ∷ calls) = by (keep v) (filtered_few keep calls)
     by false less = one_less (length (filter keep calls)) (length calls) less
 
 older_few : (calls : List Waiting) → length (map older calls) ≤ length calls
-older_few [] = itself 0
+older_few [] = le_refl 0
 older_few (v ∷ calls) = both (length (map older calls)) (length calls) (older_few calls)
 
 pushed_few : (calls : List Waiting) (w : Waiting) → length (calls ++ w ∷ []) ≤ suc (length calls)
-pushed_few [] w = itself 1
+pushed_few [] w = le_refl 1
 pushed_few (v ∷ calls) w = both (length (calls ++ w ∷ [])) (suc (length calls)) (pushed_few calls w)
 
 -- a row of a leader leaves no more calls than there were before
@@ -220,7 +217,7 @@ abbrev pub LeavesNoMore : (Leader → Leader × LeadOut) → Type 0
 LeavesNoMore row = (l : Leader) → length (row l).0.table.calls ≤ length l.table.calls
 
 same_calls : (old new : List Waiting) → new ≡ old → length new ≤ length old
-same_calls old new is = subst (λ (calls : List Waiting). length calls ≤ length old) (sym is) (itself (length old))
+same_calls old new is = subst (λ (calls : List Waiting). length calls ≤ length old) (sym is) (le_refl (length old))
 
 served_few : (key : List ℕ) (old new : CallTable) (answers : List AnswerOut) (notes : List Note) → Serves key old new answers notes → length new.calls ≤ length old.calls
 served_few key old new [] notes serves = same_calls old.calls new.calls serves.0
@@ -244,7 +241,7 @@ pub joined_few : (from id : ℕ) (key : List ℕ) (command : Command) (ends : Bo
 joined_few from id key command ends l =
     let w : Waiting = record { from = from; id = id; key = key; command = command; age = 0 } in
     let Q : Leader × LeadOut → Type 0 = λ r. length r.0.table.calls ≤ suc (length l.table.calls) in
-    let still : length l.table.calls ≤ suc (length l.table.calls) = one_less (length l.table.calls) (length l.table.calls) (itself (length l.table.calls)) in
+    let still : length l.table.calls ≤ suc (length l.table.calls) = one_less (length l.table.calls) (length l.table.calls) (le_refl (length l.table.calls)) in
     either Q ends _ _ still (either Q (nat_le 16 (waiting_on key l.table.calls)) _ _ still (pushed_few l.table.calls w))
 
 timely_few : (late : Bool) (l : Leader) (r : Leader × LeadOut) → IsTimely late l r → (late ≡ true → r.0.table.calls ≡ map older l.table.calls) → length r.0.table.calls ≤ length l.table.calls

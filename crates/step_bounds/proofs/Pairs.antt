@@ -1,6 +1,6 @@
 -- A step beside the same step with a mark where a task is left: it leaves the peer at rest.
 use Rattle.std.specs.Option.{is_some}
-use Rattle.std.proofs.Common.{◌≡◌, ◌≤◌, ◌+◌, ◌||◌, arith, refl, sym, subst, ◌∙◌, length, map, ℕ, zero, suc, Bool, true, false, if◌then◌else◌, List, [], ◌∷◌, ◌++◌, Option, Some, None}
+use Rattle.std.proofs.Common.{◌≡◌, ◌≤◌, ◌+◌, ◌||◌, refl, sym, subst, ◌∙◌, length, map, ℕ, zero, suc, Bool, true, false, if◌then◌else◌, List, [], ◌∷◌, ◌++◌, Option, Some, None}
 use Rattle.election.specs.declared.election.Election.{Election}
 use Rattle.election.specs.declared.election.Election.TheVariants.{Preparing, Starting}
 use Rattle.ens_base.specs.declared.epoch.Epoch.{Epoch}
@@ -82,6 +82,7 @@ use Rattle.step_bounds.specs.Reached.{calls_of}
 use Rattle.step_bounds.specs.Resting.{IsResting}
 use Rattle.step_bounds.proofs.Counts.{count, least, trans, left_few, turned_few, phase_row_few, received_few, aged_few, asked_few, LeavesNoMore, key_few, got_few, checked_few, put_few, joined_few, ticked_few}
 use Rattle.step_bounds.proofs.Rested.{left_rests, untrusted_rests, turned_rests, phase_row_rests, received_rests, aged_rests, asked_rests, OwnOn, lead_own, look_own, reply_own}
+use Rattle.step_bounds.proofs.Walking.{plus_none, joined_room, some_room}
 
 -- ## Tasks
 
@@ -225,15 +226,6 @@ turn_starts (thens.SyncOn fact) keys start = absurd start
 late_starts : (late : Bool) → TurnStarts (if late then thens.Stay else thens.OnKeys key_rules.StartNextCall)
 late_starts true = tt
 late_starts false = refl
-
-plus_none : (a k : ℕ) → a + 0 ≤ k → a ≤ k
-plus_none a k less = omega (arith, less)
-
-joined_room : (a b k : ℕ) → a ≤ suc b → b + 1 ≤ k → a ≤ k
-joined_room a b k first second = omega (arith, first, second)
-
-some_room : (b k : ℕ) → b + 1 ≤ k → b ≤ k
-some_room b k less = omega (arith, less)
 
 read_is_no_put : key_rules.Read ≡ key_rules.Put → ⊥
 read_is_no_put is = absurd cc

@@ -1,7 +1,7 @@
 -- When a request to change the view is taken.
 use Rattle.std.specs.Prelude.{◌↔◌}
 use Rattle.std.proofs.Common.{◌≡◌, ◌∙◌, ◌&&◌, ap, refl, sym, not, ℕ, Bool, true, false, if◌then◌else◌, List, [], ◌∷◌}
-use Rattle.std.proofs.lemmas.Bool.{true≢false, false≢true}
+use Rattle.std.proofs.lemmas.Bool.{true≢false, false≢true, and_parts, not-true}
 use Rattle.call_table.specs.declared.waiting.Waiting.{Waiting}
 use Rattle.ens_base.specs.Views.{first_view}
 use Rattle.ens_base.proofs.Lists.{bytes_same, bytes_itself}
@@ -34,15 +34,6 @@ changes_keep on_keys replies = record {
   aged = λ keys calls answers taken is. is;
   due = λ keys calls answers taken is. is;
 }
-
-both : (a b : Bool) → (a && b) ≡ true → (a ≡ true) × (b ≡ true)
-both true true is = (refl, refl)
-both true false is = absurd (false≢true is)
-both false b is = absurd (false≢true is)
-
-off : (a : Bool) → not a ≡ true → a ≡ false
-off true is = absurd (false≢true is)
-off false is = refl
 
 off_again : (a : Bool) → (a ≡ true → ⊥) → not a ≡ true
 off_again true off_so = absurd (off_so refl)
@@ -89,13 +80,13 @@ taken_is fact led finishing view = by (may_change fact led finishing view)
 -- the row in the words of the rule
 taken_takes : (view : List ℕ) (x : State) → may_change x.fact (leads x.phase) (changes x.phase) view ≡ true → TakesChange view x
 taken_takes view x is =
-    let last = both (leads x.phase && not (changes x.phase) && not (is_joint x.fact.views)) (not (same_view (first_view x.fact.views) view)) is in
-    let third = both (leads x.phase && not (changes x.phase)) (not (is_joint x.fact.views)) last.0 in
-    let first = both (leads x.phase) (not (changes x.phase)) third.0 in
+    let last = and_parts (leads x.phase && not (changes x.phase) && not (is_joint x.fact.views)) (not (same_view (first_view x.fact.views) view)) is in
+    let third = and_parts (leads x.phase && not (changes x.phase)) (not (is_joint x.fact.views)) last.0 in
+    let first = and_parts (leads x.phase) (not (changes x.phase)) third.0 in
     record {
-      leads = without_change x.phase first.0 (off (changes x.phase) first.1);
-      one = λ two. true≢false (sym (two_joint x.fact.views two) ∙ off (is_joint x.fact.views) third.1);
-      other = λ same. true≢false (sym (ap (same_view (first_view x.fact.views)) (sym same) ∙ bytes_itself (first_view x.fact.views)) ∙ off (same_view (first_view x.fact.views) view) last.1);
+      leads = without_change x.phase first.0 (not-true (changes x.phase) first.1);
+      one = λ two. true≢false (sym (two_joint x.fact.views two) ∙ not-true (is_joint x.fact.views) third.1);
+      other = λ same. true≢false (sym (ap (same_view (first_view x.fact.views)) (sym same) ∙ bytes_itself (first_view x.fact.views)) ∙ not-true (same_view (first_view x.fact.views) view) last.1);
     }
 
 takes_taken : (view : List ℕ) (x : State) → TakesChange view x → may_change x.fact (leads x.phase) (changes x.phase) view ≡ true

@@ -56,13 +56,13 @@ use Rattle.wire_frames.specs.declared.message.Message.TheVariants as messages
 use Rattle.step_bounds.specs.Reached.{calls_of}
 use Rattle.step_bounds.proofs.Counts.{count, least, trans, left_few, turned_few, phase_row_few, received_few, aged_few, asked_few, LeavesNoMore, key_few, got_few, checked_few, put_few, joined_few, ticked_few}
 
-plus_none : (a k : ℕ) → a + 0 ≤ k → a ≤ k
+pub plus_none : (a k : ℕ) → a + 0 ≤ k → a ≤ k
 plus_none a k less = omega (arith, less)
 
-joined_room : (a b k : ℕ) → a ≤ suc b → b + 1 ≤ k → a ≤ k
+pub joined_room : (a b k : ℕ) → a ≤ suc b → b + 1 ≤ k → a ≤ k
 joined_room a b k first second = omega (arith, first, second)
 
-some_room : (b k : ℕ) → b + 1 ≤ k → b ≤ k
+pub some_room : (b k : ℕ) → b + 1 ≤ k → b ≤ k
 some_room b k less = omega (arith, less)
 
 module _ (k me : ℕ) (P : State → Out → Type 0) where

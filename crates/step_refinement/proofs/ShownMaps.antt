@@ -13,15 +13,15 @@ use Rattle.peer_fact.specs.declared.fact.Fact.{Fact}
 use Rattle.seal_laws.proofs.Moves.{unsealed_not}
 use Rattle.seal_laws.specs.Kept.{IsSealed, RootHolds, named_by}
 use Rattle.step_plans.specs.Saved.{kept_seal, with_seal}
-use Rattle.step_plans.specs.Calls.{Call, Load, Save, FreshTree, OpenTree, Root, Find, Enter, ScanTree, ReadNode, Install, Fetch, Put, Hash}
+use Rattle.step_plans.specs.Calls.{Call}
 use Rattle.sync_laws.specs.Facts.{Lines}
 use Rattle.sync_refinement.proofs.Staying.{stays, tree_says_stay}
 use Rattle.sync_refinement.specs.Syncs.{TreeSays, MayReturn}
 use Rattle.tree_refinement.proofs.Keeping as keeping
-use Rattle.tree_refinement.proofs.Keeping.{after_saving, after_putting}
 use Rattle.tree_refinement.proofs.Recording.{last_top}
 use Rattle.tree_refinement.proofs.Tops as records
 use Rattle.tree_refinement.proofs.Tops.{named_behind, named_sees}
+use Rattle.tree_refinement.proofs.Rooted.{root_kept_so}
 use Rattle.tree_refinement.specs.Laws.{KeepsRoot}
 use Rattle.tree_refinement.specs.Rooted.{Sees}
 use Rattle.tree_refinement.specs.Tops.{IsNamed, NamesNext, IsWritten, tops_of}
@@ -147,22 +147,6 @@ pub root_over : (o e : Objects) (q : ℕ) (top seal root other next : Option (Li
 root_over o e q top seal root other next same_top same_root blind (inl is) = inl (same_root ∙ (is.0 ∙ sym same_top), same_root ∙ (is.1 ∙ sym (ap (λ (x : Option (List ℕ)). named_by x seal) same_top)))
 root_over o e q top seal root other next same_top same_root blind (inr none) = inr (same_root ∙ none.0, none.1, blind none.2)
 
--- a call that gives the tree no other root leaves its root
-pub root_same : (call : Call) (h : Held) → KeepsRoot call → (answered call h).held.stores.tree.top ≡ h.stores.tree.top
-root_same Load h k = refl
-root_same (Save fact) h k = after_saving fact h (λ (t : Held). t.stores.tree.top ≡ h.stores.tree.top) (λ facts. refl)
-root_same (FreshTree tree) h k = absurd k
-root_same (OpenTree seal tree) h k = absurd k
-root_same Root h k = refl
-root_same (Find key) h k = refl
-root_same (Enter entry) h k = absurd k
-root_same ScanTree h k = refl
-root_same (ReadNode at) h k = refl
-root_same (Install entries) h k = absurd k
-root_same (Fetch key) h k = refl
-root_same (Put key bytes) h k = after_putting key bytes h (λ (t : Held). t.stores.tree.top ≡ h.stores.tree.top) (λ objects. refl)
-root_same (Hash bytes) h k = refl
-
 -- ## Trees
 
 module _ (s : State) (strings : List (List ℕ)) (q : ℕ) (seal : Option (List ℕ)) where
@@ -184,7 +168,7 @@ module _ (s : State) (strings : List (List ℕ)) (q : ℕ) (seal : Option (List 
 
   -- a call that leaves the root and the fact leaves the tree
   abbrev pub tree_kept : (call : Call) (h : Held) → KeepsRoot call → (answered call h).held.stores.facts.kept ≡ h.stores.facts.kept → TreeHolds s strings q seal h → TreeHolds s strings q seal (answered call h).held
-  tree_kept call h root same tree = tree_over h (answered call h).held same (records.keeps call h root).0 (root_same call h root) (keeping.grows call h) tree
+  tree_kept call h root same tree = tree_over h (answered call h).held same (records.keeps call h root).0 (root_kept_so call h root) (keeping.grows call h) tree
 
   -- so does a save of a fact with the same seal
   abbrev pub tree_saved : (fact : Fact) (h : Held) → TreeHolds s strings q seal h → TreeHolds s strings q seal (with_facts (record h.stores.facts { kept = Some (with_seal seal fact) }) h)

@@ -79,7 +79,7 @@ use Rattle.tree_verify.specs.Scans.{lost}
 use Rattle.tree_refinement.proofs.Damage.{scan_positions}
 use Rattle.tree_refinement.proofs.Keeping as keeping
 use Rattle.tree_refinement.proofs.Rooted as rooted
-use Rattle.tree_refinement.proofs.Rooted.{version_kept_so}
+use Rattle.tree_refinement.proofs.Rooted.{version_kept_so, root_kept_so}
 use Rattle.tree_refinement.proofs.Tops.{installs as installs_tops, named_behind}
 use Rattle.tree_refinement.specs.Laws.{KeepsRoot}
 use Rattle.tree_refinement.specs.Rooted.{LosesAll, IsSeen}
@@ -101,7 +101,7 @@ use Rattle.step_refinement.proofs.Refusals.{Halts, rests_down, rests_over, rests
 use Rattle.step_refinement.proofs.SentMessages.{SaysSo, SendSaysSo, says_nothing, tells_more}
 use Rattle.step_refinement.proofs.LaterStates.{phase_stays, sends_stay}
 use Rattle.step_refinement.proofs.LeaderTasks.{PhasesNext}
-use Rattle.step_refinement.proofs.ShownMaps.{IsSealOf, seal_on, tops_behind, tops_next, tops_stay, seal_names, next_top, last_stays, last_under, last_written, root_same, tree_kept, tree_sees, written_root}
+use Rattle.step_refinement.proofs.ShownMaps.{IsSealOf, seal_on, tops_behind, tops_next, tops_stay, seal_names, next_top, last_stays, last_under, last_written, tree_kept, tree_sees, written_root}
 use Rattle.step_refinement.specs.Peers.{MessageFits, SendFits, TopsReturn, LastMap, SealFits, IsRooted, SyncFits}
 use Rattle.step_refinement.specs.Roles.{role_in, said_in_sends}
 
@@ -638,7 +638,7 @@ module _ (c : Scene) where
     seal = here.seal;
     mode = here.mode;
     held = version_kept_so call h root ∙ here.held;
-    sync = subst (λ (top : Option (List ℕ)). SyncFits version lines (now c here.reached) strings p x.fact x.trusted here.tree.last.map top x.sync) (sym (root_same call h root)) here.sync;
+    sync = subst (λ (top : Option (List ℕ)). SyncFits version lines (now c here.reached) strings p x.fact x.trusted here.tree.last.map top x.sync) (sym (root_kept_so call h root)) here.sync;
     fits = here.fits;
     task = here.task;
     noted = here.noted;
@@ -667,7 +667,7 @@ module _ (c : Scene) where
         (laws_here at.0.reached).starts version strings p x.fact new x.trusted at.0.tree.last.map scan (firm_here at.0.reached) at.0.trust at.0.peer.saved.ballot (first_seen (now c at.0.reached).objects.ledger new may.first) (ap epoch_number may.promised) may.newer
             (hashed among scan seen.1) at.0.tree.last.says (record { is_map = at.0.tree.last.named.stands.is_map; entries = seen.0 })
             (subst (λ (v : TreeVersion). AllByRecursion (IsPosition v) scan.damaged) at.0.held (scan_positions h scan is)),
-        subst (IsRooted scan) (sym (root_same ScanTree h tt)) (clean_rooted h at.0.tree.last.map scan seen.1),
+        subst (IsRooted scan) (sym (root_kept_so ScanTree h tt)) (clean_rooted h at.0.tree.last.map scan seen.1),
       )
 
       by_scan : AreAmong (answered ScanTree h).held.hashed strings → (result : Result Scan PeerError) → (answered ScanTree h).result ≡ result → IsSeen h at.0.tree.last.map result → Answers c ScanTree (λ scan. go_on p (row_start new p x.trusted scan) x out next) (λ scan. go_on p (row_start new p x.trusted scan) x out mark) h notes

@@ -71,7 +71,7 @@ use Rattle.tree_maps.proofs.Parts.{ascends-put}
 use Rattle.tree_maps.specs.Entries.{lookup, put, IsMap}
 use Rattle.tree_node.specs.declared.position.Position.{Position}
 use Rattle.tree_refinement.proofs.Keeping.{grows, hashes, spares, versions}
-use Rattle.tree_refinement.proofs.Rooted.{version_kept_so}
+use Rattle.tree_refinement.proofs.Rooted.{version_kept_so, root_kept_so}
 use Rattle.tree_refinement.proofs.Tops as records
 use Rattle.tree_refinement.specs.Laws.{KeepsRoot}
 use Rattle.tree_refinement.specs.Tops.{tops_of, NamesNext, IsWritten}
@@ -85,7 +85,7 @@ use Rattle.step_refinement.proofs.CalledKeys.{length_keys, key_from}
 use Rattle.step_refinement.proofs.StoreAnswers.{Looks, Finds, Breaks, find_ends, put_ends, EnterEnds, Enters, Stops, Tears, enter_ends, broken_root, HasEither, SaveEnds, Saves, Refuses, save_ends}
 use Rattle.step_refinement.proofs.Refusals.{rests_down, rests_over, rests_sealed}
 use Rattle.step_refinement.proofs.LaterStates.{sends_stay, sync_stays, phase_stays}
-use Rattle.step_refinement.proofs.ShownMaps.{seal_on, tops_stay, last_under, last_written, root_same, tree_sees, tree_over, tree_written, tree_stays, names_from, written_from, written_kept, IsSealOf, written_root}
+use Rattle.step_refinement.proofs.ShownMaps.{seal_on, tops_stay, last_under, last_written, tree_sees, tree_over, tree_written, tree_stays, names_from, written_from, written_kept, IsSealOf, written_root}
 use Rattle.step_refinement.specs.Keys.{KeysAreFew}
 use Rattle.step_refinement.specs.Peers.{TopsReturn, TreeHolds, AcksSay, TaskFits, LastMap, SealFits, SyncFits}
 use Rattle.step_refinement.specs.Roles.{role_in, said_in_sends}
@@ -411,7 +411,7 @@ module _ (c : Scene) where
     over_call : (call : Call) (t : Held) → KeepsRoot call → (answered call t).held.stores.facts.kept ≡ t.stores.facts.kept → Over t → Over (answered call t).held
     over_call call t root same over = record {
       kept_fact = same ∙ over.kept_fact;
-      root = root_same call t root ∙ over.root;
+      root = root_kept_so call t root ∙ over.root;
       tree_version = version_kept_so call t root ∙ over.tree_version;
       tops = (records.keeps call t root).0 ∙ over.tops;
       hashed = λ a at. grows call t a (over.hashed a at);

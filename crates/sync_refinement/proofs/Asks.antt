@@ -6,9 +6,8 @@ use Rattle.ens_base.proofs.Lists.{in-map}
 use Rattle.ens_base.specs.Lists.{◌∈◌, AreDistinct}
 use Rattle.running_sync.specs.Asks.{place_of}
 use Rattle.running_sync.specs.declared.asking.Asking.{Asking}
-use Rattle.exchange.proofs.Keeping.{same_number}
 use Rattle.sync_refinement.specs.Seen.{seen_ask, ask_of}
-use Rattle.std.proofs.lemmas.Bool.{eq-eqb}
+use Rattle.std.proofs.lemmas.Bool.{eq-eqb, eqb-true}
 
 -- the peers that are asked
 abbrev pub peers_of : List Asking → List ℕ
@@ -35,7 +34,7 @@ peer_there p (x ∷ asks) a at = by_peer (x.peer == p) refl at (λ t. peer_there
     next n = omega arith
 
     by_peer : (b : Bool) → (x.peer == p) ≡ b → slice_get (x ∷ asks) (if b then 0 else place_of p asks + 1) ≡ Some a → (slice_get asks (place_of p asks) ≡ Some a → a.peer ≡ p) → a.peer ≡ p
-    by_peer true same at further = ap (λ (y : Asking). y.peer) (sym (same_Some x a at)) ∙ same_number x.peer p same
+    by_peer true same at further = ap (λ (y : Asking). y.peer) (sym (same_Some x a at)) ∙ eqb-true x.peer p same
     by_peer false same at further = further (subst (λ n. slice_get (x ∷ asks) n ≡ Some a) (next (place_of p asks)) at)
 
 -- ## An ask that is set
@@ -95,7 +94,7 @@ ask_in (x ∷ asks) a distinct (inl same) = subst (λ (y : Asking). ask_of (x �
 ask_in (x ∷ asks) a distinct (inr at) = later (x.peer == a.peer) refl (ask_in asks a distinct.1 at)
   where
     later : (b : Bool) → (x.peer == a.peer) ≡ b → ask_of asks a.peer ≡ seen_ask a → (if b then seen_ask x else ask_of asks a.peer) ≡ seen_ask a
-    later true same rest = absurd (distinct.0 (subst (λ (p : ℕ). p ∈ peers_of asks) (sym (same_number x.peer a.peer same)) (in_peers asks a at)))
+    later true same rest = absurd (distinct.0 (subst (λ (p : ℕ). p ∈ peers_of asks) (sym (eqb-true x.peer a.peer same)) (in_peers asks a at)))
     later false same rest = rest
 
 -- the asks of the peers after one of them was set
@@ -112,7 +111,7 @@ ask_set (x ∷ asks) zero a b q distinct at same = by_peer (b.peer == q) (a.peer
 ask_set (x ∷ asks) (suc n) a b q distinct at same = by_peer (x.peer == q) (a.peer == q) refl refl (ask_set asks n a b q distinct.1 at same)
   where
     by_peer : (c d : Bool) → (x.peer == q) ≡ c → (a.peer == q) ≡ d → ask_of (slice_set asks n b) q ≡ (if d then seen_ask b else ask_of asks q) → (if c then seen_ask x else ask_of (slice_set asks n b) q) ≡ (if d then seen_ask b else (if c then seen_ask x else ask_of asks q))
-    by_peer true true h k rest = absurd (distinct.0 (subst (λ (p : ℕ). p ∈ peers_of asks) (same_number a.peer q k ∙ sym (same_number x.peer q h)) (in_peers asks a (at_place asks n a at))))
+    by_peer true true h k rest = absurd (distinct.0 (subst (λ (p : ℕ). p ∈ peers_of asks) (eqb-true a.peer q k ∙ sym (eqb-true x.peer q h)) (in_peers asks a (at_place asks n a at))))
     by_peer true false h k rest = refl
     by_peer false true h k rest = rest
     by_peer false false h k rest = rest

@@ -2,7 +2,7 @@
 use Rattle.std.proofs.Common.{◌≡◌, ◌⊎◌, ℕ, ◌<◌, ◌≤◌, max, Bool, true, false, not, ◌&&◌, List, [], ◌∷◌, ◌++◌, Option, None, Some, arith, refl, ap, sym, ◌∙◌, subst, inl, inr, le_trans, append-nil}
 use Rattle.std.specs.List.{AllByRecursion}
 use Rattle.std.specs.Prelude.{◌==◌, if◌then◌else◌}
-use Rattle.std.proofs.lemmas.Bool.{and_parts}
+use Rattle.std.proofs.lemmas.Bool.{and_parts, eqb-true}
 use Rattle.std.proofs.lemmas.Bool.Decides.{nat_tests}
 use Rattle.abstract_protocol.specs.Numbers.{IsVersion}
 use Rattle.ens_base.specs.Lists.{◌∈◌}
@@ -12,7 +12,7 @@ use Rattle.tree_node.specs.declared.version.TreeVersion.{TreeVersion}
 use Rattle.tree_node.specs.TreeVersions.{levels}
 use Rattle.exchange.proofs.Gifts.{give_page}
 use Rattle.exchange.proofs.Having.{in_has, from_filter}
-use Rattle.exchange.proofs.Keeping.{take_keeps, same_number}
+use Rattle.exchange.proofs.Keeping.{take_keeps}
 use Rattle.exchange.specs.Asked.{Asked}
 use Rattle.exchange.specs.Asks.{onward, is_open, is_empty, to_ask, names_in, after_inner, after_page, step_to, stepped, reply, taken}
 use Rattle.exchange.specs.Covers.{Has, Covers, give_of, IsOwn, AreApart}
@@ -129,7 +129,7 @@ reply_receives version m damaged own q (Inner mask digests) ask ok p sent = by_l
 reply_receives version m damaged own q (Page es more) ask ok p sent = by_test (q.position.level == levels version && not (is_empty es && more)) refl
   where
     by_test : (b : Bool) → (q.position.level == levels version && not (is_empty es && more)) ≡ b → Receives m ask.received (if b then stepped (after_page q.position es more ask) else (steps.Dropped, ask)).1.received
-    by_test true h = page_receives m q.position es more ask (page_among version m q es more ok p (same_number q.position.level (levels version) (and_parts (q.position.level == levels version) (not (is_empty es && more)) h).0) sent)
+    by_test true h = page_receives m q.position es more ask (page_among version m q es more ok p (eqb-true q.position.level (levels version) (and_parts (q.position.level == levels version) (not (is_empty es && more)) h).0) sent)
     by_test false h = nothing_more m ask.received ask.received refl
 reply_receives version m damaged own q (Damaged at) ask ok p sent = nothing_more m ask.received ask.received refl
 

@@ -82,7 +82,7 @@ each_has f (x ∷ view) q h (inr i) = each_has f view q (grind arith) i
 
 -- ## Keys
 
-below_not_in : (k : List ℕ) (m : List Entry) → IsBelowAll k m → k ∈ map (λ (e : Entry). e.key) m → ⊥
+pub below_not_in : (k : List ℕ) (m : List Entry) → IsBelowAll k m → k ∈ map (λ (e : Entry). e.key) m → ⊥
 below_not_in k [] below i = i
 below_not_in k (e ∷ m) below (inl same) = let both : Less ≡ Equal = sym below.0 ∙ ap (λ (j : List ℕ). bytes_cmp k j) (sym same) ∙ cmp_same k in absurd cc
 below_not_in k (e ∷ m) below (inr i) = below_not_in k m below.1 i

@@ -1,5 +1,5 @@
 -- Maps of versions against lists of entries, and tests of positions against what they test.
-use Rattle.std.proofs.Common.{◌≡◌, ◌⊎◌, ℕ, zero, ◌<◌, ◌≤◌, suc, max, Bool, true, false, cond, not, ◌&&◌, ◌||◌, List, [], ◌∷◌, ◌++◌, Option, None, Some, take, arith, refl, ap, sym, ◌∙◌, subst, inl, inr, le_trans, le_refl}
+use Rattle.std.proofs.Common.{◌≡◌, ◌⊎◌, ℕ, zero, ◌<◌, ◌≤◌, suc, max, Bool, true, false, cond, ◌&&◌, ◌||◌, List, [], ◌∷◌, ◌++◌, Option, None, Some, take, arith, refl, ap, sym, ◌∙◌, subst, inl, inr, le_trans, le_refl}
 use Rattle.ens_base.proofs.Lists.{bytes_same, bytes_itself}
 use Rattle.std.specs.Prelude.{if◌then◌else◌}
 use Rattle.std.specs.declared.cmp.Ordering.TheVariants.{Less}
@@ -41,10 +41,6 @@ max_again a b c = grind (arith, nat_tests)
 
 max_zero : (a : ℕ) → a ≡ max 0 a
 max_zero a = grind (arith, nat_tests)
-
--- the opposite of a false test is true
-pub true_not : (b : Bool) → b ≡ false → not b ≡ true
-true_not b h = grind arith
 
 -- ## Ranks of versions
 

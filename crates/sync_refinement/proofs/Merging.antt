@@ -3,7 +3,7 @@ use Rattle.std.proofs.Common.{◌≡◌, ◌⊎◌, inl, inr, ℕ, ◌≤◌, Bo
 use Rattle.ens_base.proofs.Lists.{in_append}
 use Rattle.std.specs.Prelude.{◌==◌, if◌then◌else◌}
 use Rattle.std.specs.List.{flat_map}
-use Rattle.std.proofs.lemmas.Bool.Decides.{nat_tests}
+use Rattle.std.proofs.lemmas.Bool.{eqb-true, ne_eqb}
 use Rattle.ens_base.specs.Limits as limits
 use Rattle.ens_base.specs.Lists.{◌∈◌, AreDistinct}
 use Rattle.ens_base.specs.Views.{last_view}
@@ -17,7 +17,6 @@ use Rattle.sync_rule.specs.Merges.{Exceeds, IsMerge}
 use Rattle.sync_rule.specs.Syncs.{is_source, all_entries}
 use Rattle.sync_rule.specs.declared.sync.Source.{Source}
 use Rattle.tree_maps.specs.Entries.{Ascends}
-use Rattle.exchange.proofs.Keeping.{same_number}
 use Rattle.sync_refinement.proofs.Asks.{ask_in}
 use Rattle.sync_refinement.proofs.Maps.{HasRank, ranks_in, ranks_found, greatest_in, greatest_found}
 use Rattle.sync_refinement.proofs.Ranks.{merge_ascends, no_lower}
@@ -62,9 +61,6 @@ sent_of (x ∷ ss) e i = by_part (in_append x.entries (sent_by ss) e i) (sent_of
     by_part (inl j) later = (x, inl refl, j)
     by_part (inr j) later = let there = later j in (there.0, inr there.1, there.2)
 
-not_equal : (m n : ℕ) → (m ≡ n → ⊥) → (m == n) ≡ false
-not_equal m n h = grind (arith, nat_tests)
-
 -- a source that is this peer
 abbrev SourceOf : List Source → ℕ → Type 0
 SourceOf ss q = (source : Source) × (source ∈ ss) × (source.peer ≡ q)
@@ -74,7 +70,7 @@ source_at [] q h = absurd cc
 source_at (x ∷ ss) q h = by_peer (x.peer == q) refl h (source_at ss q)
   where
     by_peer : (b : Bool) → (x.peer == q) ≡ b → (b || is_source ss q) ≡ true → (is_source ss q ≡ true → SourceOf ss q) → SourceOf (x ∷ ss) q
-    by_peer true e h later = (x, inl refl, same_number x.peer q e)
+    by_peer true e h later = (x, inl refl, eqb-true x.peer q e)
     by_peer false e h later = let there = later h in (there.0, inr there.1, there.2)
 
 -- ## Asks
@@ -82,7 +78,7 @@ source_at (x ∷ ss) q h = by_peer (x.peer == q) refl h (source_at ss q)
 -- a peer that is not asked never finishes
 pub ask_none : (asks : List Asking) (p : ℕ) → ((a : Asking) → a ∈ asks → a.peer ≡ p → ⊥) → syncs.is_finished (ask_of asks p).stage ≡ false
 ask_none [] p none = refl
-ask_none (x ∷ asks) p none = rw (not_equal x.peer p (none x (inl refl))) (ask_none asks p (λ a i. none a (inr i)))
+ask_none (x ∷ asks) p none = rw (ne_eqb x.peer p (none x (inl refl))) (ask_none asks p (λ a i. none a (inr i)))
 
 -- ## The merge
 

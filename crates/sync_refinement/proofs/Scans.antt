@@ -1,7 +1,7 @@
 -- What a scan found, as the theory sees it.
 use Rattle.std.proofs.Common.{◌≡◌, ◌⊎◌, ℕ, Bool, true, false, not, List, [], ◌∷◌, Option, None, Some, filter, refl, ap, sym, ◌∙◌, subst, inl}
 use Rattle.std.specs.List.{AllByRecursion}
-use Rattle.std.proofs.lemmas.Bool.{not-true}
+use Rattle.std.proofs.lemmas.Bool.{not-true, not_from_false}
 use Rattle.ens_base.specs.Lists.{◌∈◌}
 use Rattle.ens_base.specs.declared.entry.Entry.{Entry}
 use Rattle.tree_node.specs.declared.version.TreeVersion.{TreeVersion}
@@ -24,7 +24,7 @@ use Rattle.tree_verify.specs.Scans.{lost}
 use Rattle.sync_refinement.specs.Seen.{ranks, seen_tree, seen_scan}
 use Rattle.sync_refinement.specs.Syncs.{IsScanOf}
 use Rattle.tree_verify.proofs.Telling.{in_filter}
-use Rattle.sync_refinement.proofs.Maps.{true_not, passes_of_any, lost_is_any}
+use Rattle.sync_refinement.proofs.Maps.{passes_of_any, lost_is_any}
 use Rattle.election_laws.proofs.Epochs.{not_both}
 
 -- a scan without damage lost no key
@@ -47,7 +47,7 @@ module _ (m : List Entry) (scan : Scan) (is : IsScanOf m scan) where
 
   -- a key that is not lost has the version of the map
   pub scan_entries : (k : List ℕ) → lost (form_of Two) scan.damaged k ≡ false → ranks scan.entries k ≡ ranks m k
-  scan_entries k kept = subst (λ (es : List Entry). ranks es k ≡ ranks m k) (sym is.entries) (sym (ap entry_rank (find-part is_kept k (true_not (lost (form_of Two) scan.damaged k) kept) m)))
+  scan_entries k kept = subst (λ (es : List Entry). ranks es k ≡ ranks m k) (sym is.entries) (sym (ap entry_rank (find-part is_kept k (not_from_false (lost (form_of Two) scan.damaged k) kept) m)))
 
   -- a key that is lost has none
   pub scan_lost : (k : List ℕ) → lost (form_of Two) scan.damaged k ≡ true → ranks scan.entries k ≡ 0
@@ -72,7 +72,7 @@ module _ (m : List Entry) (scan : Scan) (is : IsScanOf m scan) where
     where
       scanned : (e : Entry) → e ∈ m → ¬ PassesAny version e.key scan.damaged → (b : Bool) → lost (form_of Two) scan.damaged e.key ≡ b → e ∈ scan.entries
       scanned e inside free true gone = absurd (free (passes_of_any version e.key scan.damaged (sym (lost_is_any e.key scan.damaged) ∙ gone)))
-      scanned e inside free false kept = subst (λ (es : List Entry). e ∈ es) (sym is.entries) (in_filter (λ (x : Entry). is_kept x.key) e m inside (true_not (lost (form_of Two) scan.damaged e.key) kept))
+      scanned e inside free false kept = subst (λ (es : List Entry). e ∈ es) (sym is.entries) (in_filter (λ (x : Entry). is_kept x.key) e m inside (not_from_false (lost (form_of Two) scan.damaged e.key) kept))
 
 -- a scan that lost each key is one of any map, as an ask takes it without an own node
 pub lost_own : (version : TreeVersion) (n : List Entry) (scan : Scan) (own : Option (List ℕ)) (at : Position) → IsMap n → LosesAll scan → AllByRecursion (IsPosition version) scan.damaged → own ≡ None → IsOwn version own scan at n

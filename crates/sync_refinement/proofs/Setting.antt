@@ -1,6 +1,6 @@
 -- An open ask of a sync is set: it goes on, or its source has finished.
 use Rattle.std.proofs.Common.{◌≡◌, ◌⊎◌, ℕ, Bool, true, false, ◌&&◌, ◌||◌, List, [], ◌∷◌, ◌++◌, Some, arith, refl, ap, sym, ◌∙◌, subst, inl, inr}
-use Rattle.std.proofs.lemmas.Bool.{or_left, or_right, eq-eqb}
+use Rattle.std.proofs.lemmas.Bool.{or_left, or_right, eq-eqb, eqb-true}
 use Rattle.ens_base.proofs.Lists.{in_append}
 use Rattle.std.specs.Prelude.{◌==◌, slice_get, slice_set, if◌then◌else◌}
 use Rattle.abstract_protocol.specs.Numbers.{epoch_number}
@@ -19,7 +19,6 @@ use Rattle.sync_rule.specs.declared.sync.Source.{Source}
 use Rattle.tree_node.specs.declared.version.TreeVersion.{TreeVersion}
 use Rattle.sync_refinement.specs.Seen.{ranks, seen_stage, seen_ask, ask_of}
 use Rattle.sync_refinement.specs.Syncs.{EntriesSay, SourcesAre, SyncSays}
-use Rattle.exchange.proofs.Keeping.{same_number}
 use Rattle.sync_refinement.proofs.Asks.{at_place, in_set, set_there, still_there, set_itself, set_peers, ask_in, ask_set}
 use Rattle.election_laws.proofs.Epochs.{not_both}
 
@@ -104,7 +103,7 @@ module _ (version : TreeVersion) (g : Lines) (s : State) (strings : List (List �
       received x (inr there) = old.received x there
 
       by_peer : (q : ℕ) (c : Bool) → (a.peer == q) ≡ c → Holds q (if c then seen_ask b else ask_of r.asks q)
-      by_peer q true same = subst (λ x. Holds x (seen_ask b)) (same_number a.peer q same) says.holds
+      by_peer q true same = subst (λ x. Holds x (seen_ask b)) (eqb-true a.peer q same) says.holds
       by_peer q false other = old.holds.asks q
 
   -- an ask that was set to itself
@@ -137,11 +136,11 @@ module _ (version : TreeVersion) (g : Lines) (s : State) (strings : List (List �
     })
       where
         finished : (q : ℕ) (c : Bool) → (a.peer == q) ≡ c → is_source r.sync.sources q ≡ syncs.is_finished (if c then seen_ask b else ask_of r.asks q).stage
-        finished q true same = subst (λ x. is_source r.sync.sources x ≡ false) (same_number a.peer q same) no_source ∙ sym open_still
+        finished q true same = subst (λ x. is_source r.sync.sources x ≡ false) (eqb-true a.peer q same) no_source ∙ sym open_still
         finished q false other = old.sources.finished q
 
         flagged : (q : ℕ) (c : Bool) → (a.peer == q) ≡ c → is_trusted_source r.sync.sources q ≡ (syncs.is_finished (if c then seen_ask b else ask_of r.asks q).stage && (if c then seen_ask b else ask_of r.asks q).flagged)
-        flagged q true same = subst (λ x. is_trusted_source r.sync.sources x ≡ false) (same_number a.peer q same) no_trusted_source ∙ sym (ap (λ t. t && b.trusted) open_still)
+        flagged q true same = subst (λ x. is_trusted_source r.sync.sources x ≡ false) (eqb-true a.peer q same) no_trusted_source ∙ sym (ap (λ t. t && b.trusted) open_still)
         flagged q false other = old.sources.flagged q
 
     -- the source of the ask has finished
@@ -167,7 +166,7 @@ module _ (version : TreeVersion) (g : Lines) (s : State) (strings : List (List �
         finished q false d other is = ap (λ x. is_source r.sync.sources q || x) (is ∙ other) ∙ or_false (is_source r.sync.sources q) ∙ old.sources.finished q
 
         flagged : (q : ℕ) (c d : Bool) → (a.peer == q) ≡ c → d ≡ (a.peer == q) → (is_trusted_source r.sync.sources q || (d && b.trusted)) ≡ (syncs.is_finished (if c then seen_ask b else ask_of r.asks q).stage && (if c then seen_ask b else ask_of r.asks q).flagged)
-        flagged q true d same is = ap (λ x. is_trusted_source r.sync.sources q || (x && b.trusted)) (is ∙ same) ∙ ap (λ x. x || b.trusted) (subst (λ x. is_trusted_source r.sync.sources x ≡ false) (same_number a.peer q same) no_trusted_source) ∙ sym (ap (λ t. t && b.trusted) is_done)
+        flagged q true d same is = ap (λ x. is_trusted_source r.sync.sources q || (x && b.trusted)) (is ∙ same) ∙ ap (λ x. x || b.trusted) (subst (λ x. is_trusted_source r.sync.sources x ≡ false) (eqb-true a.peer q same) no_trusted_source) ∙ sym (ap (λ t. t && b.trusted) is_done)
         flagged q false d other is = ap (λ x. is_trusted_source r.sync.sources q || (x && b.trusted)) (is ∙ other) ∙ or_false (is_trusted_source r.sync.sources q) ∙ old.sources.flagged q
 
         given : (source : Source) → (source ∈ r.sync.sources) ⊎ (source ∈ (source_of b ∷ [])) → (x : Asking) × (x ∈ slice_set r.asks place b) × (x.peer ≡ source.peer) × (source.entries ≡ x.ask.received)

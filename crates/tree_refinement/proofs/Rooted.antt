@@ -203,7 +203,7 @@ enters strings h m e free among (inl (inr f)) fits few =
     (λ a. foreign_entry strings h m e f free a) among
 
 -- a call that leaves the root
-root_kept_so : (call : Call) (h : Held) → KeepsRoot call → (answered call h).held.stores.tree.top ≡ h.stores.tree.top
+pub root_kept_so : (call : Call) (h : Held) → KeepsRoot call → (answered call h).held.stores.tree.top ≡ h.stores.tree.top
 root_kept_so Load h k = refl
 root_kept_so (Save fact) h k = after_saving fact h (λ t. t.stores.tree.top ≡ h.stores.tree.top) (λ facts. refl)
 root_kept_so (FreshTree tree) h k = absurd k

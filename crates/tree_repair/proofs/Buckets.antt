@@ -5,6 +5,7 @@ use Rattle.std.specs.Option.{is_some}
 use Rattle.std.specs.List.{dedup, cons_option}
 use Rattle.std.specs.List.Sorted.{IsNonDecreasing, IsNonDecreasingBy}
 use Rattle.std.proofs.lemmas.Bool.Decides.{nat_tests}
+use Rattle.std.proofs.lemmas.Bool.{ne_eqb, eq-eqb}
 use Rattle.ens_base.specs.declared.entry.Entry.{Entry}
 use Rattle.tree_node.specs.Entries.{is_less, is_above, AreAbove}
 use Rattle.tree_maps.specs.Forms.{Form, Laws}
@@ -19,7 +20,7 @@ use Rattle.tree_repair.specs.Runs.{IsRun}
 use Rattle.tree_repair.specs.Segments.{placed, taken}
 use Rattle.tree_repair.specs.declared.order.Placed.{Placed}
 use Rattle.tree_repair.specs.declared.runs.Run.{Run}
-use Rattle.tree_repair.proofs.Numbers.{has, same_number, other_number, has_at, each_once}
+use Rattle.tree_repair.proofs.Numbers.{has, has_at, each_once}
 use Rattle.tree_repair.proofs.Indexes.{index_below, under_index}
 
 -- ## Parts of ascending entries ascend
@@ -83,13 +84,13 @@ run_part k i [] zero zero b inside outside = refl
 run_part k i [] zero (suc n) b inside outside = absurd (omega arith)
 run_part k i [] (suc s) n b inside outside = absurd (omega arith)
 run_part k i (x ∷ xs) zero zero b inside outside =
-    let new : (k x == i) ≡ false = other_number (k x) i (λ is. let at = outside 0 (omega arith) is in absurd (omega (arith, at.1))) in
+    let new : (k x == i) ≡ false = ne_eqb (k x) i (λ is. let at = outside 0 (omega arith) is in absurd (omega (arith, at.1))) in
     rw new (run_part k i xs zero zero (omega arith) (λ j u v. absurd (omega arith)) (λ j l is. let at = outside (suc j) (omega arith) is in absurd (omega (arith, at.1))))
 run_part k i (x ∷ xs) zero (suc n) b inside outside =
-    let old : (k x == i) ≡ true = same_number (k x) i (inside 0 (omega arith) (omega arith)) in
+    let old : (k x == i) ≡ true = eq-eqb (k x) i (inside 0 (omega arith) (omega arith)) in
     rw old (ap (λ ys. x ∷ ys) (run_part k i xs zero n (omega arith) (λ j u v. inside (suc j) (omega arith) (omega arith)) (λ j l is. let at = outside (suc j) (omega arith) is in (omega arith, omega (arith, at.1)))))
 run_part k i (x ∷ xs) (suc s) n b inside outside =
-    let new : (k x == i) ≡ false = other_number (k x) i (λ is. let at = outside 0 (omega arith) is in absurd (omega (arith, at.0))) in
+    let new : (k x == i) ≡ false = ne_eqb (k x) i (λ is. let at = outside 0 (omega arith) is in absurd (omega (arith, at.0))) in
     rw new (run_part k i xs s n (omega arith) (λ j u v. inside (suc j) (omega arith) (omega arith)) (λ j l is. let at = outside (suc j) (omega arith) is in (omega (arith, at.0), omega (arith, at.1))))
 
 pub run_items : {X : Type 0} (k : X → ℕ) (xs : List X) (r : Run) → IsRun (map k xs) r → take (r.end - r.start) (drop r.start xs) ≡ filter (λ x. k x == r.number) xs

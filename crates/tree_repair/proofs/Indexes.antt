@@ -4,6 +4,7 @@ use Rattle.std.specs.Prelude.{◌==◌, ◌&&◌, filter}
 use Rattle.std.proofs.Math.Nat.{div-lt_iff_lt-mul, div-add-mod, mod-eq_of_lt, div-eq_of_lt, mul-add-div, mul-add-mod_self_left}
 use Rattle.std.proofs.lemmas.Nat.{mul-add-lt}
 use Rattle.std.proofs.lemmas.Bool.Decides.{nat_tests}
+use Rattle.std.proofs.lemmas.Bool.{ne_eqb, eq-eqb}
 use native.Mathlib.Nat.{pow-suc, pow-zero}
 use Rattle.ens_base.specs.declared.entry.Entry.{Entry}
 use Rattle.md5.specs.Md5.{md5}
@@ -20,7 +21,6 @@ use Rattle.synctree.proofs.Places.{width_is, depth_is, digit_is}
 use Rattle.tree_maps.specs.Paths.{passes, under}
 use Rattle.tree_repair.specs.Builds.{place}
 use Rattle.tree_repair.specs.Levels.{index_of}
-use Rattle.tree_repair.proofs.Numbers.{same_number, other_number}
 
 pub filter_agree : (p q : Entry → Bool) → ((e : Entry) → p e ≡ q e) → (m : List Entry) → filter p m ≡ filter q m
 filter_agree p q h [] = refl
@@ -40,9 +40,9 @@ digits_test w a d i l = by (a == i / w) (d == i % w) refl refl
     by true true e f =
         let first : a ≡ i / w = grind (arith, nat_tests) in
         let last : d ≡ i % w = grind (arith, nat_tests) in
-        sym (same_number (w * a + d) i ((λ j. w * first j + last j) ∙ div-add-mod i w))
-    by true false e f = sym (other_number (w * a + d) i (λ s. let is : d ≡ i % w = sym (remainder w a d l) ∙ ap (λ (n : ℕ). n % w) s in let bad : true ≡ false = sym (same_number d (i % w) is) ∙ f in absurd cc))
-    by false q e f = sym (other_number (w * a + d) i (λ s. let is : a ≡ i / w = sym (quotient w a d l) ∙ ap (λ (n : ℕ). n / w) s in let bad : true ≡ false = sym (same_number a (i / w) is) ∙ e in absurd cc))
+        sym (eq-eqb (w * a + d) i ((λ j. w * first j + last j) ∙ div-add-mod i w))
+    by true false e f = sym (ne_eqb (w * a + d) i (λ s. let is : d ≡ i % w = sym (remainder w a d l) ∙ ap (λ (n : ℕ). n % w) s in let bad : true ≡ false = sym (eq-eqb d (i % w) is) ∙ f in absurd cc))
+    by false q e f = sym (ne_eqb (w * a + d) i (λ s. let is : a ≡ i / w = sym (quotient w a d l) ∙ ap (λ (n : ℕ). n / w) s in let bad : true ≡ false = sym (eq-eqb a (i / w) is) ∙ e in absurd cc))
 
 module _ (F : Form) (laws : Laws F) where
   pub some_width : 0 < F.width
@@ -61,7 +61,7 @@ module _ (F : Form) (laws : Laws F) where
   parent_below l i b = (div-lt_iff_lt-mul {k = F.width} {x = i} {y = F.width ^ l} some_width).1 (let wide = rw (pow-suc F.width l) at b in omega (arith, wide))
 
   pub passes_index : (l : ℕ) (key : List ℕ) (i : ℕ) → i < F.width ^ l → passes F key l i ≡ (index_of F l key == i)
-  passes_index zero key i b = let few = rw (pow-zero F.width) at b in sym (same_number 0 i (omega (arith, few)))
+  passes_index zero key i b = let few = rw (pow-zero F.width) at b in sym (eq-eqb 0 i (omega (arith, few)))
   passes_index (suc l) key i b = ap (λ (t : Bool). t && (F.digit key l == i % F.width)) (passes_index l key (i / F.width) (parent_below l i b)) ∙ digits_test F.width (index_of F l key) (F.digit key l) i (laws.in_width key l)
 
   -- the entries below a node are those whose paths go through it

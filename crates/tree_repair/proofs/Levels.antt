@@ -1,5 +1,5 @@
 -- The levels of a tree, each from the nodes of the level below that are there.
-use Rattle.std.proofs.Common.{◌≡◌, ℕ, zero, suc, ◌+◌, ◌-◌, ◌*◌, ◌/◌, ◌%◌, ◌<◌, ◌≤◌, ◌^◌, Bool, true, false, cond, List, [], ◌∷◌, Option, None, Some, length, get_or, set, take, drop, map, replicate, refl, ap, sym, ◌∙◌, subst, arith, le-div_iff_mul-le, div-mul-le_self, mod-lt, length-take, length-drop, ◌++◌}
+use Rattle.std.proofs.Common.{◌≡◌, ℕ, zero, suc, ◌+◌, ◌-◌, ◌*◌, ◌/◌, ◌%◌, ◌<◌, ◌≤◌, ◌^◌, Bool, true, false, cond, List, [], ◌∷◌, Option, None, Some, length, get_or, set, take, drop, map, replicate, refl, ap, sym, ◌∙◌, subst, arith, le-div_iff_mul-le, div-mul-le_self, mod-lt, length-take, length-drop, ◌++◌, add-one}
 use Rattle.std.specs.Prelude.{◌==◌, ◌||◌, nat_eq, filter}
 use Rattle.std.specs.Option.{is_some}
 use Rattle.std.specs.List.{All, dedup}
@@ -7,6 +7,7 @@ use Rattle.std.specs.List.Sorted.{IsNonDecreasing}
 use Rattle.std.proofs.Math.Nat.{div-add-mod}
 use Rattle.std.proofs.lemmas.List.Elements.{All-from_get_or}
 use Rattle.std.proofs.lemmas.Bool.Decides.{nat_tests}
+use Rattle.std.proofs.lemmas.Bool.{ne_eqb, eq-eqb, or_right}
 use native.Mathlib.Nat.{pow-suc, pow-zero}
 use Rattle.md5.specs.Md5.{md5}
 use Rattle.ens_base.specs.declared.entry.Entry.{Entry}
@@ -27,7 +28,7 @@ use Rattle.tree_repair.specs.Levels.{is_there, indexes_of, texts_of, names_of}
 use Rattle.tree_repair.specs.Runs.{IsRun}
 use Rattle.tree_repair.specs.declared.runs.Run.{Run}
 use Rattle.tree_repair.proofs.Lists.{each_from, map_map, length_of_map}
-use Rattle.tree_repair.proofs.Numbers.{Rises, has, same_number, other_number, has_at, each_once, non_decreasing_of}
+use Rattle.tree_repair.proofs.Numbers.{Rises, has, has_at, each_once, non_decreasing_of}
 use Rattle.tree_repair.proofs.Indexes.{quotient, remainder, some_width, child_below, parent_below}
 use Rattle.tree_repair.proofs.Buckets.{has_items, shown_items, shown_text}
 
@@ -36,10 +37,6 @@ same_test true b f g = sym (f refl)
 same_test false true f g = g refl
 same_test false false f g = refl
 
-or_later : (a b : Bool) → b ≡ true → (a || b) ≡ true
-or_later true b e = refl
-or_later false b e = e
-
 -- ## The numbers from lo on that pass a test
 
 listed_low : (t : ℕ → Bool) (n lo r : ℕ) → r < lo → has r (filter t (each_of (λ i. i) n lo)) ≡ false
@@ -47,7 +44,7 @@ listed_low t zero lo r l = refl
 listed_low t (suc n) lo r l = by (t lo) (listed_low t n (lo + 1) r (omega arith))
   where
     by : (b : Bool) → has r (filter t (each_of (λ i. i) n (lo + 1))) ≡ false → has r (cond b (lo ∷ filter t (each_of (λ i. i) n (lo + 1))) (filter t (each_of (λ i. i) n (lo + 1)))) ≡ false
-    by true h = ap (λ (a : Bool). a || has r (filter t (each_of (λ i. i) n (lo + 1)))) (other_number lo r (λ e. absurd (omega arith))) ∙ h
+    by true h = ap (λ (a : Bool). a || has r (filter t (each_of (λ i. i) n (lo + 1)))) (ne_eqb lo r (λ e. absurd (omega arith))) ∙ h
     by false h = h
 
 has_listed : (t : ℕ → Bool) (n lo r : ℕ) → lo ≤ r → r < lo + n → has r (filter t (each_of (λ i. i) n lo)) ≡ t r
@@ -120,16 +117,16 @@ has_above w [] j h = absurd cc
 has_above w (k ∷ js) j h = by (k == j) refl (has_above w js j) h
   where
     by : (b : Bool) → (k == j) ≡ b → (has j js ≡ true → has (j / w) (map (λ i. i / w) js) ≡ true) → (b || has j js) ≡ true → has (j / w) (map (λ i. i / w) (k ∷ js)) ≡ true
-    by true e rest x = let is : k ≡ j = grind (arith, nat_tests) in ap (λ (a : Bool). a || has (j / w) (map (λ i. i / w) js)) (same_number (k / w) (j / w) (ap (λ (i : ℕ). i / w) is))
-    by false e rest x = or_later (k / w == j / w) (has (j / w) (map (λ i. i / w) js)) (rest x)
+    by true e rest x = let is : k ≡ j = grind (arith, nat_tests) in ap (λ (a : Bool). a || has (j / w) (map (λ i. i / w) js)) (eq-eqb (k / w) (j / w) (ap (λ (i : ℕ). i / w) is))
+    by false e rest x = or_right (k / w == j / w) (has (j / w) (map (λ i. i / w) js)) (rest x)
 
 from_above : (w : ℕ) (js : List ℕ) (p : ℕ) → has p (map (λ i. i / w) js) ≡ true → (j : ℕ) × (has j js ≡ true) × (j / w ≡ p)
 from_above w [] p h = absurd cc
 from_above w (k ∷ js) p h = by (k / w == p) refl (from_above w js p) h
   where
     by : (b : Bool) → (k / w == p) ≡ b → (has p (map (λ i. i / w) js) ≡ true → (j : ℕ) × (has j js ≡ true) × (j / w ≡ p)) → (b || has p (map (λ i. i / w) js)) ≡ true → (j : ℕ) × (has j (k ∷ js) ≡ true) × (j / w ≡ p)
-    by true e rest x = (k, ap (λ (a : Bool). a || has k js) (same_number k k refl), grind (arith, nat_tests))
-    by false e rest x = let at = rest x in (at.0, or_later (k == at.0) (has at.0 js) at.1, at.2)
+    by true e rest x = (k, ap (λ (a : Bool). a || has k js) (eq-eqb k k refl), grind (arith, nat_tests))
+    by false e rest x = let at = rest x in (at.0, or_right (k == at.0) (has at.0 js) at.1, at.2)
 
 -- the nodes of a run are the children of one node
 run_part : (w p : ℕ) (is : List ℕ) (names cs : List (Option (List ℕ))) (s n : ℕ) → length names ≡ length is → s + n ≤ length is → ((j : ℕ) → s ≤ j → j < s + n → get_or (map (λ i. i / w) is) j 0 ≡ p) → ((j : ℕ) → j < length is → get_or (map (λ i. i / w) is) j 0 ≡ p → (s ≤ j) × (j < s + n))
@@ -140,13 +137,13 @@ run_part w p [] [] cs (suc s) n long b inside outside = absurd (omega arith)
 run_part w p [] (x ∷ names) cs s n long b inside outside = absurd (omega arith)
 run_part w p (i ∷ is) [] cs s n long b inside outside = absurd (omega arith)
 run_part w p (i ∷ is) (x ∷ names) cs zero zero long b inside outside =
-    let new : (i / w == p) ≡ false = other_number (i / w) p (λ e. let at = outside 0 (omega arith) e in absurd (omega (arith, at.1))) in
+    let new : (i / w == p) ≡ false = ne_eqb (i / w) p (λ e. let at = outside 0 (omega arith) e in absurd (omega (arith, at.1))) in
     rw new (run_part w p is names cs zero zero (omega arith) (omega arith) (λ j u v. absurd (omega arith)) (λ j l e. let at = outside (suc j) (omega arith) e in absurd (omega (arith, at.1))))
 run_part w p (i ∷ is) (x ∷ names) cs zero (suc n) long b inside outside =
-    let old : (i / w == p) ≡ true = same_number (i / w) p (inside 0 (omega arith) (omega arith)) in
+    let old : (i / w == p) ≡ true = eq-eqb (i / w) p (inside 0 (omega arith) (omega arith)) in
     rw old (run_part w p is names (set cs (i % w) x) zero n (omega arith) (omega arith) (λ j u v. inside (suc j) (omega arith) (omega arith)) (λ j l e. let at = outside (suc j) (omega arith) e in (omega arith, omega (arith, at.1))))
 run_part w p (i ∷ is) (x ∷ names) cs (suc s) n long b inside outside =
-    let new : (i / w == p) ≡ false = other_number (i / w) p (λ e. let at = outside 0 (omega arith) e in absurd (omega (arith, at.0))) in
+    let new : (i / w == p) ≡ false = ne_eqb (i / w) p (λ e. let at = outside 0 (omega arith) e in absurd (omega (arith, at.0))) in
     rw new (run_part w p is names cs s n (omega arith) (omega arith) (λ j u v. inside (suc j) (omega arith) (omega arith)) (λ j l e. let at = outside (suc j) (omega arith) e in (omega (arith, at.0), omega (arith, at.1))))
 
 pub run_children : (w : ℕ) (is : List ℕ) (names : List (Option (List ℕ))) (r : Run) → length names ≡ length is → IsRun (map (λ i. i / w) is) r → filled w (replicate w None) (take (r.end - r.start) (drop r.start is)) (take (r.end - r.start) (drop r.start names)) ≡ children_of w r.number is names
@@ -159,7 +156,7 @@ run_children w is names r long run = run_part w r.number is names (replicate w N
 pub root_children : (is : List ℕ) (names cs : List (Option (List ℕ))) → length names ≡ length is → All (λ (i : ℕ). i < 16) is → filled 16 cs is names ≡ filled_at 16 0 cs is names
 root_children [] names cs long h = refl
 root_children (i ∷ is) [] cs long h = absurd (omega arith)
-root_children (i ∷ is) (x ∷ names) cs long h = let old : (i / 16 == 0) ≡ true = same_number (i / 16) 0 (low i (h 0 0 (omega arith))) in rw old (root_children is names (set cs (i % 16) x) (omega arith) (λ k d l. h (suc k) d (omega arith)))
+root_children (i ∷ is) (x ∷ names) cs long h = let old : (i / 16 == 0) ≡ true = eq-eqb (i / 16) 0 (low i (h 0 0 (omega arith))) in rw old (root_children is names (set cs (i % 16) x) (omega arith) (λ k d l. h (suc k) d (omega arith)))
   where
     low : (y : ℕ) → y < 16 → y / 16 ≡ 0
     low y l = omega arith
@@ -173,24 +170,24 @@ filled_listed w p some g f (j ∷ js) = by (j / w == p) refl (λ h. filled_liste
 
     first : set (each_of f w 0) (j % w) (g j) ≡ each_of (λ c. cond (c == j % w) (g j) (f c)) w 0
     first = set-each f (λ c. cond (c == j % w) (g j) (f c)) w 0 (j % w) (g j)
-        (ap (λ (b : Bool). cond b (g j) (f (0 + j % w))) (same_number (0 + j % w) (j % w) (omega arith)))
-        (λ c a ne. sym (ap (λ (b : Bool). cond b (g j) (f c)) (other_number c (j % w) (λ e. ne (omega arith)))))
+        (ap (λ (b : Bool). cond b (g j) (f (0 + j % w))) (eq-eqb (0 + j % w) (j % w) (omega arith)))
+        (λ c a ne. sym (ap (λ (b : Bool). cond b (g j) (f c)) (ne_eqb c (j % w) (λ e. ne (omega arith)))))
         (mod-lt j some)
 
     agree : (e : j / w ≡ p) (c : ℕ) → cond (has (w * p + c) js) (g (w * p + c)) (cond (c == j % w) (g j) (f c)) ≡ cond ((j == w * p + c) || has (w * p + c) js) (g (w * p + c)) (f c)
     agree e c = pick (has (w * p + c) js) (c == j % w) refl
       where
         pick : (h b : Bool) → (c == j % w) ≡ b → cond h (g (w * p + c)) (cond b (g j) (f c)) ≡ cond ((j == w * p + c) || h) (g (w * p + c)) (f c)
-        pick true b is = sym (ap (λ (a : Bool). cond a (g (w * p + c)) (f c)) (or_later (j == w * p + c) true refl))
+        pick true b is = sym (ap (λ (a : Bool). cond a (g (w * p + c)) (f c)) (or_right (j == w * p + c) true refl))
         pick false true is =
             let at : c ≡ j % w = grind (arith, nat_tests) in
             let here : j ≡ w * p + c = sym (sum e) ∙ ap (λ (d : ℕ). w * p + d) (sym at) in
-            ap g here ∙ sym (ap (λ (a : Bool). cond (a || false) (g (w * p + c)) (f c)) (same_number j (w * p + c) here))
+            ap g here ∙ sym (ap (λ (a : Bool). cond (a || false) (g (w * p + c)) (f c)) (eq-eqb j (w * p + c) here))
         pick false false is =
-            sym (ap (λ (a : Bool). cond (a || false) (g (w * p + c)) (f c)) (other_number j (w * p + c) (λ here. let same : w * p + c ≡ w * p + j % w = sym here ∙ sym (sum e) in let at : c ≡ j % w = omega (arith, same) in let bad : true ≡ false = sym (same_number c (j % w) at) ∙ is in absurd cc)))
+            sym (ap (λ (a : Bool). cond (a || false) (g (w * p + c)) (f c)) (ne_eqb j (w * p + c) (λ here. let same : w * p + c ≡ w * p + j % w = sym here ∙ sym (sum e) in let at : c ≡ j % w = omega (arith, same) in let bad : true ≡ false = sym (eq-eqb c (j % w) at) ∙ is in absurd cc)))
 
     apart : (j / w == p) ≡ false → (c : ℕ) → c < w → (j == w * p + c) ≡ false
-    apart e c l = other_number j (w * p + c) (λ here. let is : j / w ≡ p = ap (λ (i : ℕ). i / w) here ∙ quotient w p c l in let bad : true ≡ false = sym (same_number (j / w) p is) ∙ e in absurd cc)
+    apart e c l = ne_eqb j (w * p + c) (λ here. let is : j / w ≡ p = ap (λ (i : ℕ). i / w) here ∙ quotient w p c l in let bad : true ≡ false = sym (eq-eqb (j / w) p is) ∙ e in absurd cc)
 
     by : (b : Bool) → (j / w == p) ≡ b → ((h : ℕ → Option (List ℕ)) → filled_at w p (each_of h w 0) js (map g js) ≡ each_of (λ c. cond (has (w * p + c) js) (g (w * p + c)) (h c)) w 0) → filled_at w p (cond b (set (each_of f w 0) (j % w) (g j)) (each_of f w 0)) js (map g js) ≡ each_of (λ c. cond ((j == w * p + c) || has (w * p + c) js) (g (w * p + c)) (f c)) w 0
     by true e rest =
@@ -248,7 +245,7 @@ module _ (F : Form) (laws : Laws F) where
       by (x ∷ xs) e k = (F.digit x.key l, laws.in_width x.key l, ap has_items (under_up l i (F.digit x.key l) m (laws.in_width x.key l)) ∙ ap (λ u. has_items (within F (place l i) (F.digit x.key l) u)) e ∙ first)
         where
           first : has_items (within F (place l i) (F.digit x.key l) (x ∷ xs)) ≡ true
-          first = ap (λ (b : Bool). has_items (cond b (x ∷ within F (place l i) (F.digit x.key l) xs) (within F (place l i) (F.digit x.key l) xs))) (same_number (F.digit x.key l) (F.digit x.key l) refl)
+          first = ap (λ (b : Bool). has_items (cond b (x ∷ within F (place l i) (F.digit x.key l) xs) (within F (place l i) (F.digit x.key l) xs))) (eq-eqb (F.digit x.key l) (F.digit x.key l) refl)
 
   parent_there : (l j : ℕ) (m : List Entry) → has_items (under F (place (suc l) j) m) ≡ true → has_items (under F (place l (j / F.width)) m) ≡ true
   parent_there l j m h = filter_items (λ e. F.digit e.key l == j % F.width) (under F (place l (j / F.width)) m) (sym (ap has_items (under_child F l j m)) ∙ h)
@@ -326,20 +323,17 @@ root_name v m = ap (λ (n : ℕ). map digest_if (map (λ i. node_of (form_of v) 
 wide : (v : TreeVersion) (l : ℕ) → (form_of v).width ^ suc l ≡ 16 * 16 ^ l
 wide v l = ap (λ (w : ℕ). w ^ suc l) (width_is v) ∙ omega (arith, pow-suc 16 l)
 
-next_level : (l : ℕ) → l + 1 ≡ suc l
-next_level l = omega arith
-
 pub indexes_rise : (v : TreeVersion) (l : ℕ) (m : List Entry) (is : List ℕ) → is ≡ indexes_of (form_of v) (l + 1) m → IsNonDecreasing is
 indexes_rise v l m is e = subst (λ (xs : List ℕ). IsNonDecreasing xs) (sym e) (non_decreasing_of 0 (indexes_of (form_of v) (l + 1) m) (up_listed (is_there (form_of v) (l + 1) m) ((form_of v).width ^ (l + 1)) 0 0 (omega arith)))
 
 pub indexes_within : (v : TreeVersion) (l : ℕ) (m : List Entry) (is : List ℕ) → is ≡ indexes_of (form_of v) (l + 1) m → All (λ (i : ℕ). i < 16 * 16 ^ l) is
-indexes_within v l m is e = All-from_get_or (λ (i : ℕ). i < 16 * 16 ^ l) is 0 (λ i b. let low = there_below (form_of v) (form_laws v) (suc l) (get_or is i 0) m (subst (λ (xs : List ℕ). has (get_or is i 0) xs ≡ true) (e ∙ ap (λ (n : ℕ). indexes_of (form_of v) n m) (next_level l)) (has_at is i b)) in rw (wide v l) at low)
+indexes_within v l m is e = All-from_get_or (λ (i : ℕ). i < 16 * 16 ^ l) is 0 (λ i b. let low = there_below (form_of v) (form_laws v) (suc l) (get_or is i 0) m (subst (λ (xs : List ℕ). has (get_or is i 0) xs ≡ true) (e ∙ ap (λ (n : ℕ). indexes_of (form_of v) n m) (add-one l)) (has_at is i b)) in rw (wide v l) at low)
 
 pub names_beside : (v : TreeVersion) (l : ℕ) (m : List Entry) (is : List ℕ) (names : List (Option (List ℕ))) → is ≡ indexes_of (form_of v) (l + 1) m → names ≡ names_of (form_of v) (l + 1) m → length names ≡ length is
 names_beside v l m is names e f = ap length f ∙ length_of_map digest_if (texts_of (form_of v) (l + 1) m) ∙ length_of_map (λ i. node_of (form_of v) (place (l + 1) i) m) (indexes_of (form_of v) (l + 1) m) ∙ ap length (sym e)
 
 pub level_indexes : (v : TreeVersion) (l : ℕ) (m : List Entry) (is above : List ℕ) → is ≡ indexes_of (form_of v) (l + 1) m → above ≡ indexes_above 16 l is → above ≡ indexes_of (form_of v) l m
-level_indexes v l m is above e f = f ∙ ap (indexes_above 16 l) (e ∙ ap (λ (n : ℕ). indexes_of (form_of v) n m) (next_level l)) ∙ ap (λ (w : ℕ). indexes_above w l (indexes_of (form_of v) (suc l) m)) (sym (width_is v)) ∙ indexes_up (form_of v) (form_laws v) l m
+level_indexes v l m is above e f = f ∙ ap (indexes_above 16 l) (e ∙ ap (λ (n : ℕ). indexes_of (form_of v) n m) (add-one l)) ∙ ap (λ (w : ℕ). indexes_above w l (indexes_of (form_of v) (suc l) m)) (sym (width_is v)) ∙ indexes_up (form_of v) (form_laws v) l m
 
 pub level_texts : (v : TreeVersion) (l : ℕ) (m : List Entry) (is above : List ℕ) (names texts : List (Option (List ℕ))) → l < levels v → is ≡ indexes_of (form_of v) (l + 1) m → names ≡ names_of (form_of v) (l + 1) m → above ≡ indexes_of (form_of v) l m
     → texts ≡ map (λ i. Some ((form_of v).inner_text (place l i) (children_of 16 i is names))) above → texts ≡ texts_of (form_of v) l m
@@ -348,10 +342,10 @@ level_texts v l m is above names texts deep e f g h = h
     ∙ texts_up (form_of v) (form_laws v) l m (omega (arith, deep, depth_is v))
   where
     below : is ≡ indexes_of (form_of v) (suc l) m
-    below = e ∙ ap (λ (n : ℕ). indexes_of (form_of v) n m) (next_level l)
+    below = e ∙ ap (λ (n : ℕ). indexes_of (form_of v) n m) (add-one l)
 
     beside : names ≡ names_of (form_of v) (suc l) m
-    beside = f ∙ ap (λ (n : ℕ). names_of (form_of v) n m) (next_level l)
+    beside = f ∙ ap (λ (n : ℕ). names_of (form_of v) n m) (add-one l)
 
 -- the indexes of a run's node
 pub run_low : (l : ℕ) (is : List ℕ) (r : Run) → All (λ (i : ℕ). i < 16 * 16 ^ l) is → IsRun (map (λ i. i / 16) is) r → r.number < 16 ^ l

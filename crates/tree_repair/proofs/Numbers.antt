@@ -4,6 +4,7 @@ use Rattle.std.specs.Prelude.{◌==◌, ◌||◌, nat_eq, filter}
 use Rattle.std.specs.List.{dedup, dedup_from}
 use Rattle.std.specs.List.Sorted.{IsNonDecreasing}
 use Rattle.std.proofs.lemmas.Bool.Decides.{nat_tests}
+use Rattle.std.proofs.lemmas.Bool.{ne_eqb, eq-eqb}
 use Rattle.tree_maps.specs.Maps.{each_of}
 use Rattle.tree_repair.specs.Runs.{IsRun, Ends}
 
@@ -28,16 +29,6 @@ abbrev pub has : ℕ → List ℕ → Bool
 has r [] = false
 has r (x ∷ xs) = (x == r) || has r xs
 
-pub same_number : (x y : ℕ) → x ≡ y → (x == y) ≡ true
-same_number x y e = grind (arith, nat_tests)
-
-pub other_number : (x y : ℕ) → (x ≡ y → ⊥) → (x == y) ≡ false
-other_number x y ne = by (x == y) refl
-  where
-    by : (b : Bool) → (x == y) ≡ b → b ≡ false
-    by true e = let is : x ≡ y = grind (arith, nat_tests) in absurd (ne is)
-    by false e = refl
-
 pub rises_of : (lo : ℕ) (xs : List ℕ) → ((d : ℕ) → 0 < length xs → lo ≤ get_or xs 0 d) → IsNonDecreasing xs → Rises lo xs
 rises_of lo [] l h = tt
 rises_of lo (x ∷ xs) l h = (l 0 (omega arith), rises_of x xs (λ d some. h 0 1 d (omega arith) (omega arith)) (λ i j d a b. h (suc i) (suc j) d (omega arith) (omega arith)))
@@ -60,7 +51,7 @@ climbs_lower a b (x ∷ xs) l c = (omega (arith, c.0), c.1)
 
 below_of : (n : ℕ) (xs : List ℕ) → ((r : ℕ) → has r xs ≡ true → r < n) → AreBelow n xs
 below_of n [] h = tt
-below_of n (x ∷ xs) h = (h x (ap (λ (b : Bool). b || has x xs) (same_number x x refl)), below_of n xs (λ r e. h r (later (x == r) (has r xs) e)))
+below_of n (x ∷ xs) h = (h x (ap (λ (b : Bool). b || has x xs) (eq-eqb x x refl)), below_of n xs (λ r e. h r (later (x == r) (has r xs) e)))
   where
     later : (a b : Bool) → b ≡ true → (a || b) ≡ true
     later true b e = refl
@@ -68,7 +59,7 @@ below_of n (x ∷ xs) h = (h x (ap (λ (b : Bool). b || has x xs) (same_number x
 
 pub has_at : (xs : List ℕ) (j : ℕ) → j < length xs → has (get_or xs j 0) xs ≡ true
 has_at [] j l = absurd (omega arith)
-has_at (x ∷ xs) zero l = ap (λ (b : Bool). b || has x xs) (same_number x x refl)
+has_at (x ∷ xs) zero l = ap (λ (b : Bool). b || has x xs) (eq-eqb x x refl)
 has_at (x ∷ xs) (suc j) l = later (x == get_or xs j 0) (has (get_or xs j 0) xs) (has_at xs j (omega arith))
   where
     later : (a b : Bool) → b ≡ true → (a || b) ≡ true
@@ -119,7 +110,7 @@ below_dedup n (x ∷ xs) b = below_dedup_from n x xs b.0 b.1
 
 not_low : (r lo : ℕ) (xs : List ℕ) → r < lo → Climbs lo xs → has r xs ≡ false
 not_low r lo [] l c = refl
-not_low r lo (x ∷ xs) l c = let above : (x == r) ≡ false = other_number x r (λ e. absurd (omega (arith, c.0))) in rw above (not_low r (suc x) xs (omega (arith, c.0)) c.1)
+not_low r lo (x ∷ xs) l c = let above : (x == r) ≡ false = ne_eqb x r (λ e. absurd (omega (arith, c.0))) in rw above (not_low r (suc x) xs (omega (arith, c.0)) c.1)
 
 -- numbers that climb are the numbers from lo on that they have
 listed : (t : ℕ → Bool) (n lo : ℕ) (xs : List ℕ) → Climbs lo xs → AreBelow (lo + n) xs → ((r : ℕ) → lo ≤ r → r < lo + n → t r ≡ has r xs) → filter t (each_of (λ i. i) n lo) ≡ xs
@@ -140,7 +131,7 @@ listed t (suc n) lo (x ∷ xs) c b h = by (x == lo) refl (listed t n (lo + 1) xs
         let there : t lo ≡ true = h lo (omega arith) (omega arith) ∙ ap (λ (a : Bool). a || has lo xs) e in
         let next : suc x ≡ lo + 1 = omega arith in
         let rest : filter t (each_of (λ i. i) n (lo + 1)) ≡ xs = first (subst (λ (a : ℕ). Climbs a xs) next c.1) (subst (λ (a : ℕ). AreBelow a xs) (sym sum) b.1)
-        (λ r l u. h r (omega arith) (omega arith) ∙ ap (λ (a : Bool). a || has r xs) (other_number x r (λ s. absurd (omega arith)))) in
+        (λ r l u. h r (omega arith) (omega arith) ∙ ap (λ (a : Bool). a || has r xs) (ne_eqb x r (λ s. absurd (omega arith)))) in
         ap (λ (a : Bool). cond a (lo ∷ filter t (each_of (λ i. i) n (lo + 1))) (filter t (each_of (λ i. i) n (lo + 1)))) there ∙ (λ i. sym is i ∷ rest i)
     by false e first later =
         let above : lo < x = grind (arith, nat_tests, c.0) in
@@ -161,8 +152,8 @@ each_once t n xs up b h = sym (listed t n 0 (dedup nat_eq xs) (dedup_climbs xs (
 dedup_run_from : (k : ℕ) (xs : List ℕ) (n : ℕ) → n ≤ length xs → ((j : ℕ) → j < n → get_or xs j 0 ≡ k) → (n < length xs → get_or xs n 0 ≢ k) → dedup_from nat_eq k xs ≡ k ∷ dedup nat_eq (drop n xs)
 dedup_run_from k [] zero l same other = refl
 dedup_run_from k [] (suc n) l same other = absurd (omega arith)
-dedup_run_from k (x ∷ xs) zero l same other = let new : (x == k) ≡ false = other_number x k (other (omega arith)) in rw new refl
-dedup_run_from k (x ∷ xs) (suc n) l same other = let old : (x == k) ≡ true = same_number x k (same 0 (omega arith)) in rw old (dedup_run_from k xs n (omega arith) (λ j b. same (suc j) (omega arith)) (λ b. other (omega arith)))
+dedup_run_from k (x ∷ xs) zero l same other = let new : (x == k) ≡ false = ne_eqb x k (other (omega arith)) in rw new refl
+dedup_run_from k (x ∷ xs) (suc n) l same other = let old : (x == k) ≡ true = eq-eqb x k (same 0 (omega arith)) in rw old (dedup_run_from k xs n (omega arith) (λ j b. same (suc j) (omega arith)) (λ b. other (omega arith)))
 
 -- a run at the front
 dedup_run : (xs : List ℕ) (x n : ℕ) → 0 < n → n ≤ length xs → ((j : ℕ) → j < n → get_or xs j 0 ≡ x) → (n < length xs → get_or xs n 0 ≢ x) → dedup nat_eq xs ≡ x ∷ dedup nat_eq (drop n xs)

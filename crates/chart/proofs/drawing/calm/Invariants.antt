@@ -1,4 +1,3 @@
-use Rattle.std.specs.Prelude.{◌≡◌}
 use Rattle.held_stores.specs.Held.{account}
 use Rattle.world_model.proofs.Loops.{Calming}
 use Rattle.world_model.specs.Worlds.{run_of}

@@ -1,4 +1,4 @@
-use Rattle.std.proofs.Common.{string_bytes, rules, arith}
+use Rattle.std.proofs.Common.{string_bytes, rules}
 use Rattle.chart.proofs.Shown.{dropped, same_next, other_next}
 use Rattle.chart.proofs.text.push_lines.Goals.{then-eq, else-eq+in_ok-push_line}
 use Rattle.chart.proofs.text.push_lines.Goals as goal

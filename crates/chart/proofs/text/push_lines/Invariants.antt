@@ -1,4 +1,4 @@
-use Rattle.std.proofs.Common.{◌≡◌, ◌++◌, ◌≤◌, ◌<◌, drop, map, string_bytes}
+use Rattle.std.proofs.Common.{◌≡◌, ◌++◌, ◌≤◌, drop, map, string_bytes}
 use Rattle.chart.specs.Text.{shown, shown_after}
 use Rattle.chart.proofs.text.push_lines.Given as goal
 

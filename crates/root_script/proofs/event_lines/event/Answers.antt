@@ -3,8 +3,9 @@ use Rattle.schedule_words.specs.Causes.{Refuses}
 use Rattle.schedule_words.specs.declared.cause.Cause.{Cause}
 use Rattle.schedule_text.specs.Events.{event_of}
 use Rattle.schedule_text.specs.declared.event.ScheduleEvent.{ScheduleEvent}
+use Rattle.schedule_text.proofs.SchedulesRead.{at_line_ok}
 use Rattle.root_script.proofs.Lines.{by_words}
-use Rattle.root_script.proofs.Refusals.{at_line_ok, has_cause, refused_so}
+use Rattle.root_script.proofs.Refusals.{has_cause, refused_so}
 use Rattle.root_script.proofs.event_lines.event.Goals as goal
 
 pub without_line-requires : goal.without_line-requires
