@@ -26,6 +26,8 @@ pub struct Mailbox {
     /// What a look asks the system of each socket, in their order.
     asked: Vec<pollfd>,
     room: Room,
+    /// Whether the last look found nothing.
+    is_idle: bool,
 }
 
 /// Asks the system to let more datagrams wait at the socket. Where it refuses, its default stays.
@@ -83,6 +85,7 @@ impl Mailbox {
             sockets: Vec::new(alloc),
             asked: Vec::new(alloc),
             room: Room::new(alloc)?,
+            is_idle: true,
         })
     }
 
@@ -116,12 +119,14 @@ impl Mailbox {
     }
 
     /// Fills the room: at once if it holds a datagram or one waits at a socket, else once one comes or
-    /// the time of a look is over.
+    /// the time of a look is over. A look that follows one that found a datagram does not wait, so that
+    /// whoever looks learns at once that there are no more.
     fn look(&mut self) -> io::Result<()> {
         self.fill()?;
-        if self.room.is_empty() && is_ready(&mut self.asked, LOOK_WAIT) {
+        if self.is_idle && self.room.is_empty() && is_ready(&mut self.asked, LOOK_WAIT) {
             self.fill()?;
         }
+        self.is_idle = self.room.is_empty();
         Ok(())
     }
 

@@ -16,10 +16,10 @@ use std::net::Net;
 /// fails if one of the ports is taken.
 ///
 /// A look goes over the sockets in the order of their numbers. If it finds a frame it returns it at
-/// once, whatever its length: 0 bytes to the 65,507 that a datagram holds. A look that finds none waits
-/// for one, for at most a millisecond in all, without using the processor. A frame that is longer than a
-/// datagram is not sent: the call fails. Whether somebody listens at the port of the receiver is not
-/// told.
+/// once, whatever its length: 0 bytes to the 65,507 that a datagram holds. The first look that finds
+/// none after one that found a frame returns at once; each further one waits for a frame, for at most a
+/// millisecond in all, without using the processor. A frame that is longer than a datagram is not sent:
+/// the call fails. Whether somebody listens at the port of the receiver is not told.
 #[derive(Drop)]
 pub struct UdpLink<R: Net> {
     net: R,
