@@ -13,19 +13,19 @@ use Rattle.turn_spec.specs.Deeds.{Deed, events_in, frames_in, frames_of}
 use Rattle.turn_spec.specs.Going.{Grew, Point, Went}
 use Rattle.peer_serve.specs.Turning.{Fell, Stayed, Took}
 
-events_later : (ds es : List Deed) → events_in (ds ++ es) ≡ events_in ds ++ events_in es
+pub events_later : (ds es : List Deed) → events_in (ds ++ es) ≡ events_in ds ++ events_in es
 events_later [] es = refl
 events_later (d ∷ ds) es = ap (λ (l : List Event). d.event ∷ l) (events_later ds es)
 
-both : {A : Type 0} (xs ys us vs : List A) → xs ≡ us → ys ≡ vs → xs ++ ys ≡ us ++ vs
+pub both : {A : Type 0} (xs ys us vs : List A) → xs ≡ us → ys ≡ vs → xs ++ ys ≡ us ++ vs
 both xs ys us vs first second = cc
 
 module _ {P L : Type 0} (does : P → (call : Call) → AnswerOf call → P → Type 0) (refuses : P → Call → PeerError → P → Type 0)
     (sent : L → Option (List (ℕ × List ℕ))) (given : L → Option (List (Option (List ℕ)))) (me : ℕ) where
-  pub took_none : (a : Point P L) → Took does refuses sent given me [] [] a a
+  abbrev pub took_none : (a : Point P L) → Took does refuses sent given me [] [] a a
   took_none a = record { deeds = []; are = refl; went = went_nowhere does refuses me sent given a }
 
-  pub took_more : (a b c : Point P L) (looks more : List (Option (List ℕ))) (events later : List Event)
+  abbrev pub took_more : (a b c : Point P L) (looks more : List (Option (List ℕ))) (events later : List Event)
       → Took does refuses sent given me looks events a b → Took does refuses sent given me more later b c → Took does refuses sent given me (looks ++ more) (events ++ later) a c
   took_more a b c looks more events later first second = record {
     deeds = first.deeds ++ second.deeds;

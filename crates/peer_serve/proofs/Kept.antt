@@ -13,7 +13,7 @@ use Rattle.ens_hashing.specs.declared.plain.PlainHasher.{PlainHasher}
 use Rattle.ens_outside.specs.Maps.{Entries}
 use Rattle.ens_outside.specs.MemStores.{Held, nodes_after, objects_after}
 use Rattle.ens_outside.specs.Stores.{Get, Put as PutObject}
-use Rattle.fact_store.specs.declared.file.FactFile.{FactFile}
+use Rattle.fact_commit.specs.declared.held_fact.HeldFact.{HeldFact}
 use Rattle.peer_core.specs.PeerStores.{Stores}
 use Rattle.step_plans.specs.Calls.{Call, Load, Save, Fetch, Put, Hash, AnswerOf}
 use Rattle.synctree.specs.Outsides.{outside_does}
@@ -53,9 +53,9 @@ module _ {D : Type 0} (seen : D → Option (List ℕ)) where
     file = (has.holds.on.file, has.holds.on.told, ap entries_of (whole_file s.log.file has.holds.bytes has.holds.on has.clean) ∙ has.holds.map);
   }
 
-  module _ (may_leave : D → List ℕ → Type 0) (moment : D → ℕ) (left_since : D → ℕ → List ℕ → Type 0) (faults : D → ℕ) where
+  module _ (faults : D → ℕ) where
     abbrev Does : OnDisks D → (call : Call) → AnswerOf call → OnDisks D → Type 0
-    Does s call a t = disks_do seen may_leave moment left_since faults s call a t
+    Does s call a t = disks_do seen faults s call a t
 
     -- what a call of the tree to the store of nodes and the hasher may be answered
     abbrev TreeDid : DiskNodes D × PlainHasher → (call : TreeCall) → TreeAnswer call → DiskNodes D × PlainHasher → Type 0
@@ -77,7 +77,7 @@ module _ {D : Type 0} (seen : D → Option (List ℕ)) where
     keeps_nodes s t (Save fact) a did has = same_nodes s.0.tree t.0.tree did.2.1 has
     keeps_nodes s t (Fetch key) a did has = same_nodes s.0.tree t.0.tree did.2.0 has
     keeps_nodes s t (Put key bytes) a did has = same_nodes s.0.tree t.0.tree did.2.0 has
-    keeps_nodes s t (Hash bytes) a did has = same_nodes s.0.tree t.0.tree (ap (λ (k : Stores (DiskBackend D) (DiskNodes D) (FactFile D)). k.tree) did.4) has
+    keeps_nodes s t (Hash bytes) a did has = same_nodes s.0.tree t.0.tree (ap (λ (k : Stores (DiskBackend D) (DiskNodes D) HeldFact). k.tree) did.4) has
     keeps_nodes s t call a did has = tree_keeps TreeDid (λ (k : DiskNodes D × PlainHasher). HasNodes seen k.0) node_call_keeps (s.0.tree, s.1) (t.0.tree, t.1) call a did.0 has
 
     -- and that of objects
@@ -86,5 +86,5 @@ module _ {D : Type 0} (seen : D → Option (List ℕ)) where
     keeps_objects s t (Save fact) a did has = same_objects s.0.backend t.0.backend did.2.0 has
     keeps_objects s t (Fetch key) a did has = record { held = objects_after has.held (Get key); holds = did.0.holds has.held has.holds; clean = did.0.clean has.clean }
     keeps_objects s t (Put key bytes) a did has = record { held = objects_after has.held (PutObject key bytes); holds = did.0.holds has.held has.holds; clean = did.0.clean has.clean }
-    keeps_objects s t (Hash bytes) a did has = same_objects s.0.backend t.0.backend (ap (λ (k : Stores (DiskBackend D) (DiskNodes D) (FactFile D)). k.backend) did.4) has
+    keeps_objects s t (Hash bytes) a did has = same_objects s.0.backend t.0.backend (ap (λ (k : Stores (DiskBackend D) (DiskNodes D) HeldFact). k.backend) did.4) has
     keeps_objects s t call a did has = same_objects s.0.backend t.0.backend did.1.3.0 has

@@ -27,7 +27,7 @@ module _ {D : Type 0} (seen : D → Option (List ℕ)) (may_leave : D → List �
   logs_cause status old new cause = absurd cause
 
   pub logs_unopened : (status : Status) (old new : Three D) (opened : D) → ((c : List ℕ) → may_leave opened c → may_leave old.facts c) → LeavesOnly moment left_since old.facts opened (may_leave old.facts) → Stay (seen old.facts) (seen opened) → new.facts ≡ opened
-      → LogsRefused seen may_leave moment left_since faults status old.nodes old.objects new.nodes new.objects → Unopened seen may_leave moment left_since faults status (all_there old) (all_there new)
+      → LogsRefused seen faults status old.nodes old.objects new.nodes new.objects → Unopened seen may_leave moment left_since faults status (all_there old) (all_there new)
   logs_unopened status old new opened crash moments stay same refused = record {
     facts = subst (λ (e : D). (c : List ℕ) → may_leave e c → may_leave old.facts c) (sym same) crash;
     moments = subst (λ (e : D). LeavesOnly moment left_since old.facts e (may_leave old.facts)) (sym same) moments;

@@ -64,12 +64,12 @@ module _ (old new : Option (List (Option (List ℕ)))) where
 
   pub read_broke : (look : Option (List ℕ)) (r : Result Found ServeError) → Grew old new (look ∷ []) → IfErr r (λ e. e ≡ serves.Memory) → IfErr r (λ e. FindBroke old new (status_of e))
   read_broke look (Ok f) looked memory = tt
-  read_broke look (Err e) looked memory = record { place = Looked look; early = refl; looked = looked; kind = inl (ap status_of memory) }
+  read_broke look (Err e) looked memory = record { place = Looked look; early = refl; inside = tt; looked = looked; kind = inl (ap status_of memory) }
 
   -- the look failed
   pub look_broke : (e : LinkError) (s : ServeError) → status_of s ≡ link_status e → Looks old new (Err e) → FindBroke old new (status_of s)
-  look_broke links.Failed s same looks = record { place = Looking; early = refl; looked = not_looked old new links.Failed looks; kind = inr (refl, same) }
-  look_broke links.Memory s same looks = record { place = Looking; early = refl; looked = not_looked old new links.Memory looks; kind = inl same }
+  look_broke links.Failed s same looks = record { place = Looking; early = refl; inside = tt; looked = not_looked old new links.Failed looks; kind = inr (refl, same) }
+  look_broke links.Memory s same looks = record { place = Looking; early = refl; inside = tt; looked = not_looked old new links.Memory looks; kind = inl same }
 
 -- memory that ran out is no fault of a link
 pub memory_only : (r : Result Found ServeError) (A : Type 0) → IfErr r (λ e. e ≡ serves.Memory) → IfErr r (λ e. e ≡ serves.Link → A)

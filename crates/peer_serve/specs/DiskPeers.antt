@@ -8,7 +8,8 @@ use Rattle.disk_log.specs.Records.{entries_of}
 use Rattle.ens_hashing.specs.declared.plain.PlainHasher.{PlainHasher}
 use Rattle.ens_outside.specs.Maps.{Entries}
 use Rattle.ens_outside.specs.MemStores.{Held}
-use Rattle.fact_store.specs.Files.{FileAnswers, FileRefuses, file_faults, file_kept}
+use Rattle.fact_commit.specs.Held.{HeldAnswers, HeldRefuses, held_kept}
+use Rattle.fact_commit.specs.declared.held_fact.HeldFact.{HeldFact}
 use Rattle.fact_store.specs.declared.file.FactFile.{FactFile}
 use Rattle.peer_core.specs.PeerStores.{stores_do, stores_refuse, Stores}
 use Rattle.slot_disk.specs.Crash.{SeenIn}
@@ -17,25 +18,25 @@ use Rattle.step_plans.specs.declared.error.PeerError.{PeerError}
 use Rattle.peer_serve.specs.declared.disks.Disks.{Disks}
 use Rattle.peer_serve.specs.declared.disks.Three.{Three}
 
--- the stores of a peer on disks, with the hasher
+-- the stores of a peer on disks, with the hasher; its fact is held in memory
 abbrev pub OnDisks : Type 0 → Type 0
-OnDisks D = Stores (DiskBackend D) (DiskNodes D) (FactFile D) × PlainHasher
+OnDisks D = Stores (DiskBackend D) (DiskNodes D) HeldFact × PlainHasher
 
 -- what a call of these stores may be answered
-abbrev pub disks_do : {D : Type 0} → (D → Option (List ℕ)) → (D → List ℕ → Type 0) → (D → ℕ) → (D → ℕ → List ℕ → Type 0) → (D → ℕ) → OnDisks D → (call : Call) → AnswerOf call → OnDisks D → Type 0
-disks_do seen may_leave moment left_since faults =
+abbrev pub disks_do : {D : Type 0} → (D → Option (List ℕ)) → (D → ℕ) → OnDisks D → (call : Call) → AnswerOf call → OnDisks D → Type 0
+disks_do seen faults =
     stores_do (ObjectsDo seen) (λ b. faults b.log.file.disk) (NodesDo seen) (λ n. Some n.top) (λ n. faults n.log.file.disk)
-    (FileAnswers seen may_leave moment left_since faults) file_kept (file_faults faults) (λ h. None) (λ h. 0) (λ h. 0)
+    (λ h call answer k. HeldAnswers h call answer k) held_kept (λ h. 0) (λ h. None) (λ h. 0) (λ h. 0)
 
 -- what a refused call may leave
-abbrev pub disks_refuse : {D : Type 0} → (D → Option (List ℕ)) → (D → List ℕ → Type 0) → (D → ℕ) → (D → ℕ → List ℕ → Type 0) → (D → ℕ) → OnDisks D → Call → PeerError → OnDisks D → Type 0
-disks_refuse seen may_leave moment left_since faults =
+abbrev pub disks_refuse : {D : Type 0} → (D → Option (List ℕ)) → (D → ℕ) → OnDisks D → Call → PeerError → OnDisks D → Type 0
+disks_refuse seen faults =
     stores_refuse (λ s call e t. ObjectsRefuse seen s e t) (λ b. faults b.log.file.disk) (NodesDo seen) (λ s call e t. NodesRefuse seen s e t) (λ n. Some n.top) (λ n. faults n.log.file.disk)
-    (FileRefuses seen may_leave moment left_since faults) file_kept (file_faults faults) (λ h. None) (λ h. 0) (λ h. 0)
+    (λ h call error k. HeldRefuses h call error k) held_kept (λ h. 0) (λ h. None) (λ h. 0) (λ h. 0)
 
--- the disks under these stores
-abbrev pub disks_under : {D : Type 0} → Stores (DiskBackend D) (DiskNodes D) (FactFile D) → Disks D
-disks_under s = record { facts = Some s.facts.slots.disk; nodes = Some s.tree.store.log.file.disk; objects = Some s.backend.log.file.disk }
+-- the disks under these stores and this file of facts
+abbrev pub disks_under : {D : Type 0} → Stores (DiskBackend D) (DiskNodes D) HeldFact → FactFile D → Disks D
+disks_under s file = record { facts = Some file.slots.disk; nodes = Some s.tree.store.log.file.disk; objects = Some s.backend.log.file.disk }
 
 -- three disks that are there
 abbrev pub all_there : {D : Type 0} → Three D → Disks D

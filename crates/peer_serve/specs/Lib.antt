@@ -1,6 +1,8 @@
-pub mod Faults
+pub mod Commits
 pub mod DiskPeers
-pub mod Turning
-pub mod Saves
-pub mod Starting
+pub mod Faults
+pub mod Lines
+pub mod Rounds
 pub mod Serving
+pub mod Starting
+pub mod Turning

@@ -1,6 +1,6 @@
 -- What became of a peer over a link, three disks and a ticker, from its start to the end of its turns
 -- or to a fault.
-use Rattle.std.specs.Prelude.{◌≡◌, ◌⊎◌, ◌≤◌, ◌<◌, ℕ, Bool, List, [], ◌∷◌, ◌++◌, length, codes, Option, Some, Ok}
+use Rattle.std.specs.Prelude.{◌≡◌, ◌⊎◌, ◌≤◌, ℕ, ◌+◌, ◌*◌, Bool, List, [], ◌∷◌, ◌++◌, length, codes, Option, Some, Result, Ok}
 use Rattle.std.specs.Fmt.{decimal}
 use Rattle.std.specs.Io.KnownBytes.{Appends}
 use Rattle.ens_base.specs.Causes.{Rose}
@@ -8,17 +8,22 @@ use Rattle.ens_base.specs.declared.peer_words.PeerWords.{PeerWords}
 use Rattle.ens_base.specs.declared.status.Status.{Status}
 use Rattle.ens_base.specs.declared.status.Status.TheVariants as statuses
 use Rattle.ens_outside.specs.Written.{AppendsFront}
-use Rattle.fact_store.specs.Keeping.{file_fact}
+use Rattle.fact_store.specs.declared.file.FactFile.{FactFile}
+use Rattle.peer_fact.specs.declared.error.FactError.{FactError}
+use Rattle.peer_fact.specs.declared.saved.SavedFact.{SavedFact}
 use Rattle.peer_state.specs.Moves.{saved_by}
-use Rattle.peer_state.specs.declared.event.Event.{Event}
+use Rattle.peer_state.specs.declared.state.State.{State}
 use Rattle.slot_disk.specs.Crash.{Told}
+use Rattle.turn_spec.specs.Deeds.{Deed, Did, frames_in}
 use Rattle.turn_spec.specs.Going.{Point}
-use Rattle.turn_spec.specs.Turns.{Turn, events_of, ignored_in, looks_of, taken_in}
+use Rattle.turn_spec.specs.Turns.{Turn, ignored_in, taken_in}
 use Rattle.peer_serve.specs.DiskPeers.{KeepsNodes, KeepsObjects, Of, OnDisks, disks_do, disks_refuse, disks_under}
 use Rattle.peer_serve.specs.Faults.{IsCause, IsStoreCause, fault_text}
-use Rattle.peer_serve.specs.Saves.{Saves, no_saves, saved_first, saved_in, saves_at}
-use Rattle.peer_serve.specs.Starting.{Began, FactsLeft, Refused, saved_at_start}
-use Rattle.peer_serve.specs.Turning.{Broke, Place, Took, TurnsBroke, TurnsMade, events_before, looks_at}
+use Rattle.peer_serve.specs.Commits.{IsFactOfSome}
+use Rattle.peer_serve.specs.Lines.{Line, looked, posted}
+use Rattle.peer_serve.specs.Rounds.{SentUntil}
+use Rattle.peer_serve.specs.Starting.{Began, FactsLeft, Refused}
+use Rattle.peer_serve.specs.Turning.{Place, TurnsBroke, TurnsMade, begun_at}
 use Rattle.peer_serve.specs.declared.disks.Disks.{Disks}
 
 -- the peer is one of at most 31
@@ -38,55 +43,60 @@ abbrev pub Printed : (old new : Option (List ℕ)) → (before now : ℕ) → St
 Printed old new before now status text result =
     ((result ≡ status) × Appends old new text) ⊎ ((result ≡ statuses.WriteFault) × AppendsFront old new text × Rose before now)
 
-module _ {D L : Type 0} (seen : D → Option (List ℕ)) (may_leave : D → List ℕ → Type 0) (moment : D → ℕ) (left_since : D → ℕ → List ℕ → Type 0) (faults : D → ℕ)
-    (sent : L → Option (List (ℕ × List ℕ))) (given : L → Option (List (Option (List ℕ)))) (w : PeerWords) (disks : Disks D) where
-  -- the saves of a start and of the steps that followed it, and then these
-  abbrev pub saves_of : (a b : Point (OnDisks D) L) (looks : List (Option (List ℕ))) (events : List Event) → Began seen may_leave moment left_since faults w disks a.state a.stores
-      → Took (disks_do seen may_leave moment left_since faults) (disks_refuse seen may_leave moment left_since faults) sent given w.me looks events a b → Saves → Saves
-  saves_of a b looks events began took later =
-      saved_first (saved_at_start seen may_leave moment left_since faults w disks a.state a.stores began)
-      (saved_first (saved_in (disks_do seen may_leave moment left_since faults) (disks_refuse seen may_leave moment left_since faults) w.me a.state a.stores took.deeds b.state b.stores took.went.did) later)
-
-  -- the saves until a fault came at this place
-  abbrev pub saves_until : (a b : Point (OnDisks D) L) (status : Status) (turns : List Turn) (place : Place) → Began seen may_leave moment left_since faults w disks a.state a.stores
-      → Broke (disks_do seen may_leave moment left_since faults) (disks_refuse seen may_leave moment left_since faults) sent given w.me w status turns place a b → Saves
-  saves_until a b status turns place began broke =
-      saves_of a broke.between (looks_of turns ++ looks_at place) (events_of w turns ++ events_before w place) began broke.took
-      (saves_at (disks_do seen may_leave moment left_since faults) (disks_refuse seen may_leave moment left_since faults) sent given w place status broke.between b broke.fell)
-
 module _ {D L T : Type 0} (seen : D → Option (List ℕ)) (may_leave : D → List ℕ → Type 0) (moment : D → ℕ) (left_since : D → ℕ → List ℕ → Type 0) (faults : D → ℕ)
     (sent : L → Option (List (ℕ × List ℕ))) (given : L → Option (List (Option (List ℕ)))) (link_faults : L → ℕ) (coming : T → Option (ℕ → Bool)) (w : PeerWords) where
+  -- what was found at first, or the fact of the state of the peer after some of these steps
+  abbrev pub IsFoundOrOfSome : State → OnDisks D → List Deed → (found now : Option (Result SavedFact FactError)) → Type 0
+  IsFoundOrOfSome x s deeds found now = (now ≡ found) ⊎ IsFactOfSome (disks_do seen faults) (disks_refuse seen faults) w.me x s deeds now
+
   -- The peer started and made all its turns. At its end a crash of the disk of the facts leaves the
   -- fact of its state with its seal, and the other two disks hold what its stores hold. At any moment
-  -- until then a crash left the fact that the peer found, or one that it saved.
+  -- until then a crash left the fact that the peer found, or that of its state after some of its steps.
   pub record Served (disks disks_after : Disks D) (link link_after : L) (ticker ticker_after : T) (turns : List Turn) : Type 0 where
     pub all : length turns ≡ w.turns
     pub first : Point (OnDisks D) L
     pub link_first : first.link ≡ link
-    pub began : Began seen may_leave moment left_since faults w disks first.state first.stores
+    pub first_file : FactFile D
+    pub began : Began seen may_leave moment left_since faults w disks first.state first.stores first_file
     pub end : Point (OnDisks D) L
-    pub made : TurnsMade (disks_do seen may_leave moment left_since faults) (disks_refuse seen may_leave moment left_since faults) sent given coming w first end ticker ticker_after turns
+    pub end_file : FactFile D
+    pub made : TurnsMade (disks_do seen faults) (disks_refuse seen faults) sent given coming w first end ticker ticker_after turns
     pub link_end : end.link ≡ link_after
-    pub disks_end : disks_after ≡ disks_under end.stores.0
-    pub facts : Of disks.facts (λ d. Told (seen d) (λ file. (c : List ℕ) → may_leave end.stores.0.facts.slots.disk c → file_fact c ≡ Some (Ok (saved_by end.state))))
-    pub moments : FactsLeft seen may_leave moment left_since faults disks end.stores (saves_of seen may_leave moment left_since faults sent given w disks first end (looks_of turns) (events_of w turns) began made.took no_saves)
+    pub disks_end : disks_after ≡ disks_under end.stores.0 end_file
+    pub facts : FactsLeft seen may_leave moment left_since faults disks end_file.slots.disk (λ found now. now ≡ Some (Ok (saved_by end.state))) (IsFoundOrOfSome first.state first.stores made.took.deeds)
     pub nodes : Of disks.nodes (λ d. Told (seen d) (λ file. KeepsNodes seen end.stores.0.tree.store))
     pub objects : Of disks.objects (λ d. Told (seen d) (λ file. KeepsObjects seen end.stores.0.backend))
 
-  -- The peer started, and after these turns a fault came in the next one, at this place. A crash of the
-  -- disk of the facts leaves the fact that was saved last, or one whose save failed, and at any moment
-  -- until then it left the fact that the peer found, or one that it saved.
+  -- the fact of the state after the steps that are durable, or what was found if there are none
+  abbrev pub IsDurable : (kept : List Deed) → State → (found now : Option (Result SavedFact FactError)) → Type 0
+  IsDurable kept z found now = ((kept ≡ []) × (now ≡ found)) ⊎ (now ≡ Some (Ok (saved_by z)))
+
+  -- The peer started, and after these turns a fault came, at this place. The steps until then are those that
+  -- are `kept` and those that came too `late`, in at most 32 turns. What the first put out was sent, or a
+  -- front of it if the fault came while it was sent; and nothing else was. A crash of the disk of the facts
+  -- leaves the fact of the state after these, or that after all steps, whose save failed. At any moment until
+  -- then it left the fact that the peer found, or that of its state after some of its steps.
   pub record Interrupted (status : Status) (disks disks_after : Disks D) (link link_after : L) (ticker ticker_after : T) (turns : List Turn) (place : Place) : Type 0 where
-    pub fewer : length turns < w.turns
-    pub first : Point (OnDisks D) L
-    pub link_first : first.link ≡ link
-    pub began : Began seen may_leave moment left_since faults w disks first.state first.stores
-    pub end : Point (OnDisks D) L
-    pub broke : TurnsBroke (disks_do seen may_leave moment left_since faults) (disks_refuse seen may_leave moment left_since faults) sent given coming w status first end ticker ticker_after turns place
-    pub link_end : end.link ≡ link_after
-    pub disks_end : disks_after ≡ disks_under end.stores.0
-    pub facts : FactsLeft seen may_leave moment left_since faults disks end.stores (saves_until seen may_leave moment left_since faults sent given w disks first end status turns place began broke.broke)
-    pub cause : IsCause (IsStoreCause faults disks disks_after end.stores.0.facts) (Rose (link_faults link) (link_faults link_after)) status
+    pub fewer : length turns + begun_at place ≤ w.turns
+    pub first : Point (OnDisks D) (Line L)
+    pub first_line : first.link ≡ record { link = link; unsent = [] }
+    pub first_file : FactFile D
+    pub began : Began seen may_leave moment left_since faults w disks first.state first.stores first_file
+    pub end : Point (OnDisks D) (Line L)
+    pub end_file : FactFile D
+    pub broke : TurnsBroke (disks_do seen faults) (disks_refuse seen faults) (posted sent w.me) (looked given) coming w status first end ticker ticker_after turns place
+    pub link_end : end.link.link ≡ link_after
+    pub disks_end : disks_after ≡ disks_under end.stores.0 end_file
+    pub kept : List Deed
+    pub late : List Deed
+    pub few : length late ≤ 2 * 32
+    pub steps : broke.broke.took.deeds ≡ kept ++ late
+    pub state : State
+    pub stores : OnDisks D
+    pub reached : Did (disks_do seen faults) (disks_refuse seen faults) w.me first.state first.stores kept state stores
+    pub sends : SentUntil place status (sent link) (sent link_after) (frames_in w.me kept)
+    pub facts : FactsLeft seen may_leave moment left_since faults disks end_file.slots.disk (λ found now. IsDurable kept state found now ⊎ (now ≡ Some (Ok (saved_by broke.broke.between.state)))) (IsFoundOrOfSome first.state first.stores broke.broke.took.deeds)
+    pub cause : IsCause (IsStoreCause faults disks disks_after end_file) (Rose (link_faults link) (link_faults link_after)) status
 
   -- the peer came to a fault, in its turns or before the first of them
   abbrev pub Failed : Status → Disks D → Disks D → L → L → T → T → Type 0

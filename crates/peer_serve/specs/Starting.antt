@@ -1,5 +1,5 @@
 -- How a peer starts on its disks.
-use Rattle.std.specs.Prelude.{◌≡◌, ◌⊎◌, ℕ, true, List, [], Option, None}
+use Rattle.std.specs.Prelude.{◌≡◌, ◌⊎◌, ℕ, true, List, [], Option, None, Result}
 use Rattle.disk_log.specs.LogFiles.{IsClean}
 use Rattle.disk_log.specs.Records.{entries_of}
 use Rattle.disk_stores.specs.DiskCalls.{HoldsNodes, HoldsObjects}
@@ -10,16 +10,19 @@ use Rattle.ens_base.specs.declared.status.Status.{Status}
 use Rattle.fact_store.specs.Files.{file_kept}
 use Rattle.fact_store.specs.Keeping.{file_fact}
 use Rattle.peer_fact.specs.declared.saved.SavedFact.{SavedFact}
+use Rattle.fact_commit.specs.Held.{held_kept}
+use Rattle.fact_store.specs.declared.file.FactFile.{FactFile}
+use Rattle.peer_fact.specs.declared.error.FactError.{FactError}
 use Rattle.peer_plan.specs.Starts.{start_of}
 use Rattle.peer_state.specs.declared.state.Mode.{Mode}
 use Rattle.peer_state.specs.declared.state.State.{State}
 use Rattle.slot_disk.specs.Crash.{LeavesOnly, SeenIn, Told}
 use Rattle.slot_disk.specs.SlotFiles.{IsAtRest}
-use Rattle.step_plans.specs.Plans.{Finished, Runs, Stopped, nothing}
+use Rattle.step_plans.specs.Plans.{Finished, Runs, nothing}
 use Rattle.tree_node.specs.declared.version.TreeVersion.TheVariants.{Two}
 use Rattle.peer_serve.specs.DiskPeers.{Of, OnDisks, disks_do, disks_refuse, disks_under}
 use Rattle.peer_serve.specs.Faults.{Between, DiskRose, IsCause, IsStoreCause}
-use Rattle.peer_serve.specs.Saves.{LeavesFacts, Saves, saves_in}
+use Rattle.peer_serve.specs.Commits.{LeavesFacts}
 use Rattle.peer_serve.specs.Turning.{RanInto}
 use Rattle.peer_serve.specs.declared.disks.Disks.{Disks}
 
@@ -27,7 +30,7 @@ use Rattle.peer_serve.specs.declared.disks.Disks.{Disks}
 abbrev pub served_mode : Mode
 served_mode = record { sealing = true; tree = Two }
 
-module _ {D : Type 0} (seen : D → Option (List ℕ)) (may_leave : D → List ℕ → Type 0) (moment : D → ℕ) (left_since : D → ℕ → List ℕ → Type 0) (faults : D → ℕ) where
+module _ {D : Type 0} (seen : D → Option (List ℕ)) (faults : D → ℕ) where
   -- The logs of nodes and objects were opened, and no fault was counted. The root of the tree is not
   -- read yet.
   pub record LogsOpened (nodes objects : D) (s : OnDisks D) : Type 0 where
@@ -44,15 +47,17 @@ module _ {D : Type 0} (seen : D → Option (List ℕ)) (may_leave : D → List �
     pub objects_held : Told (seen objects) (λ file. SeenIn seen objects_after (λ after. entries_of after ≡ entries_of file))
     pub cause : IsCause (Rose (faults nodes) (faults nodes_after) ⊎ Rose (faults objects) (faults objects_after)) ⊥ status
 
-  -- Stores were opened on disks, and no fault was counted: over disks that tell their bytes they hold
-  -- what the disks held. A crash of the disk of the facts at any moment until then leaves what it might
-  -- have left before. The root of the tree is not read yet.
-  pub record Opened (disks : Disks D) (s : OnDisks D) : Type 0 where
-    pub facts : Of disks.facts (λ d. Told (seen d) (λ file. IsAtRest seen may_leave s.0.facts.slots × (file_kept s.0.facts ≡ file_fact file)) × (faults s.0.facts.slots.disk ≡ faults d))
-    pub moments : Of disks.facts (λ d. LeavesOnly moment left_since d s.0.facts.slots.disk (may_leave d))
-    pub nodes : Of disks.nodes (λ d. Told (seen d) (λ file. HoldsNodes seen s.0.tree.store (nodes_of file)) × (faults s.0.tree.store.log.file.disk ≡ faults d))
-    pub objects : Of disks.objects (λ d. Told (seen d) (λ file. HoldsObjects seen s.0.backend (entries_of file)) × (faults s.0.backend.log.file.disk ≡ faults d))
-    pub unspent : s.0.facts.spent ≡ 0
+module _ {D : Type 0} (seen : D → Option (List ℕ)) (may_leave : D → List ℕ → Type 0) (moment : D → ℕ) (left_since : D → ℕ → List ℕ → Type 0) (faults : D → ℕ) where
+  -- Stores and a file of facts were opened on disks, and no fault was counted: over disks that tell their
+  -- bytes they hold what the disks held. A crash of the disk of the facts at any moment until then leaves
+  -- what it might have left before. The root of the tree is not read yet.
+  pub record Opened (disks : Disks D) (s : OnDisks D) (file : FactFile D) : Type 0 where
+    pub facts : Of disks.facts (λ d. Told (seen d) (λ bytes. IsAtRest seen may_leave file.slots × (file_kept file ≡ file_fact bytes)) × (faults file.slots.disk ≡ faults d))
+    pub moments : Of disks.facts (λ d. LeavesOnly moment left_since d file.slots.disk (may_leave d))
+    pub held : held_kept s.0.facts ≡ file_kept file
+    pub nodes : Of disks.nodes (λ d. Told (seen d) (λ bytes. HoldsNodes seen s.0.tree.store (nodes_of bytes)) × (faults s.0.tree.store.log.file.disk ≡ faults d))
+    pub objects : Of disks.objects (λ d. Told (seen d) (λ bytes. HoldsObjects seen s.0.backend (entries_of bytes)) × (faults s.0.backend.log.file.disk ≡ faults d))
+    pub unspent : file.spent ≡ 0
     pub clean : IsClean s.0.tree.store.log.file × IsClean s.0.backend.log.file
     pub unread : s.0.tree.top ≡ None
 
@@ -67,30 +72,27 @@ module _ {D : Type 0} (seen : D → Option (List ℕ)) (may_leave : D → List �
     pub objects : Between disks.objects disks_after.objects (λ d e. Told (seen d) (λ file. SeenIn seen e (λ after. entries_of after ≡ entries_of file)))
     pub cause : IsCause (DiskRose faults disks disks_after) ⊥ status
 
-  -- the peer opened its stores on the disks, and started: in this state, with these stores
-  pub record Began (w : PeerWords) (disks : Disks D) (x : State) (s : OnDisks D) : Type 0 where
+  -- the peer opened its stores on the disks, and started: in this state, with these stores and this file
+  -- of facts, to which nothing was committed yet
+  pub record Began (w : PeerWords) (disks : Disks D) (x : State) (s : OnDisks D) (file : FactFile D) : Type 0 where
     pub first : OnDisks D
-    pub opened : Opened disks first
-    pub starts : Runs (disks_do seen may_leave moment left_since faults) (disks_refuse seen may_leave moment left_since faults) (start_of served_mode w.view) first [] (Finished x nothing) s []
+    pub opened : Opened disks first file
+    pub starts : Runs (disks_do seen faults) (disks_refuse seen faults) (start_of served_mode w.view) first [] (Finished x nothing) s []
 
-  -- what a crash leaves of a disk of facts that told its bytes, and these stores are on it now
-  abbrev pub FactsLeft : Disks D → OnDisks D → Saves → Type 0
-  FactsLeft disks s saves = Of disks.facts (λ d. Told (seen d) (λ file. LeavesFacts may_leave moment left_since d s.0.facts.slots.disk file saves))
+  -- what a crash leaves of a disk of facts that told its bytes, and this disk is what became of it
+  abbrev pub FactsLeft : Disks D → D → (at_end ever : Option (Result SavedFact FactError) → Option (Result SavedFact FactError) → Type 0) → Type 0
+  FactsLeft disks last at_end ever = Of disks.facts (λ d. Told (seen d) (λ file. LeavesFacts may_leave moment left_since d last (at_end (file_fact file)) (ever (file_fact file))))
 
-  -- the facts that the start saved
-  abbrev pub saved_at_start : (w : PeerWords) (disks : Disks D) (x : State) (s : OnDisks D) → Began w disks x s → List SavedFact
-  saved_at_start w disks x s began =
-      (saves_in (disks_do seen may_leave moment left_since faults) (disks_refuse seen may_leave moment left_since faults) (start_of served_mode w.view) began.first [] (Finished x nothing) s [] began.starts).saved
-
-  -- the peer opened its stores, and its start was stopped
+  -- The peer opened its stores, and its start was stopped. Its facts are as they were.
   pub record Unstarted (w : PeerWords) (status : Status) (disks disks_after : Disks D) : Type 0 where
     pub first : OnDisks D
-    pub opened : Opened disks first
+    pub file : FactFile D
+    pub opened : Opened disks first file
     pub end : OnDisks D
-    pub stops : RanInto (disks_do seen may_leave moment left_since faults) (disks_refuse seen may_leave moment left_since faults) status (start_of served_mode w.view) first end
-    pub disks_end : disks_after ≡ disks_under end.0
-    pub facts : FactsLeft disks end (saves_in (disks_do seen may_leave moment left_since faults) (disks_refuse seen may_leave moment left_since faults) (start_of served_mode w.view) first [] (Stopped stops.error) end stops.notes stops.ran)
-    pub cause : IsCause (IsStoreCause faults disks disks_after end.0.facts) ⊥ status
+    pub stops : RanInto (disks_do seen faults) (disks_refuse seen faults) status (start_of served_mode w.view) first end
+    pub disks_end : disks_after ≡ disks_under end.0 file
+    pub facts : FactsLeft disks file.slots.disk (λ found now. now ≡ found) (λ found now. now ≡ found)
+    pub cause : IsCause (IsStoreCause faults disks disks_after file) ⊥ status
 
   -- the peer made no turn
   abbrev pub Refused : PeerWords → Status → Disks D → Disks D → Type 0

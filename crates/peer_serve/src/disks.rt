@@ -2,6 +2,7 @@ ghost use Rattle.std.specs.Prelude.{◌≡◌};
 ghost use Rattle.peer_serve.specs.DiskPeers.{AreThere, all_there, disks_under};
 
 use disk_stores::{DiskBackend, DiskNodes};
+use fact_commit::HeldFact;
 use fact_store::FactFile;
 use peer_core::{Peer, Stores};
 use slot_disk::Disk;
@@ -22,11 +23,18 @@ pub(crate) struct Three<D> {
     pub(crate) objects: D,
 }
 
-/// The stores of a peer on disks.
-pub(crate) type DiskStores<D> = Stores<DiskBackend<D>, DiskNodes<D>, FactFile<D>>;
+/// The stores of a peer on disks. Its fact is held in memory, and committed to its disk by whoever serves.
+pub(crate) type DiskStores<D> = Stores<DiskBackend<D>, DiskNodes<D>, HeldFact>;
 
 /// A peer on disks.
-pub(crate) type DiskPeer<D> = Peer<DiskBackend<D>, DiskNodes<D>, FactFile<D>>;
+pub(crate) type DiskPeer<D> = Peer<DiskBackend<D>, DiskNodes<D>, HeldFact>;
+
+/// Opened stores, and the opened file of facts.
+#[derive(Drop)]
+pub(crate) struct Storage<D: Disk> {
+    pub(crate) stores: DiskStores<D>,
+    pub(crate) facts: FactFile<D>,
+}
 
 /// Takes the disks, which are all there.
 pub(crate) fn take<D: Drop>(disks: &mut Disks<D>) -> Three<D>
@@ -63,15 +71,18 @@ pub(crate) fn put<D: Drop>(disks: &mut Disks<D>, three: Three<D>)
     disks.objects = Some(objects);
 }
 
-/// Takes the disks out of stores.
-pub(crate) fn close<D: Disk>(stores: DiskStores<D>) -> Three<D>
-    ensures { all_there result ≡ disks_under stores }
+/// Takes the disks out of what was opened on them.
+pub(crate) fn close<D: Disk>(storage: Storage<D>) -> Three<D>
+    ensures { all_there result ≡ disks_under storage.stores storage.facts }
 {
-    let Stores {
-        backend,
-        tree,
+    let Storage {
+        stores: Stores {
+            backend,
+            tree,
+            facts: _held,
+        },
         facts,
-    } = stores;
+    } = storage;
     let (_mark, nodes) = tree.split();
     Three {
         facts: facts.into_disk(),

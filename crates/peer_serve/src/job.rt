@@ -9,8 +9,9 @@ ghost use Rattle.peer_serve.specs.Serving.{Ended, Failed, IsAmongPeers, Printed,
 ghost use Rattle.peer_serve.specs.Turning.{AreCounted};
 ghost use Rattle.turn_spec.specs.Turns.{Turn};
 
-use crate::disks::{Disks, Three, close, put, take};
+use crate::disks::{Disks, Storage, Three, close, put, take};
 use crate::error::ServeError;
+use crate::server::Server;
 use crate::starting::start;
 use crate::turns::{Counts, turns};
 use ens_base::{PeerWords, Status};
@@ -39,8 +40,8 @@ fn run<L: Link, D: Disk, T: Ticker, R: Threads + Sync>(
     ensures served { IfOk result.ended (λ counts. (turns : List Turn) × Served D.seen D.may_leave D.moment D.left_since D.fault_count L.sent L.given L.fault_count T.coming words.now (all_there disks) (all_there result.disks) link.old link.new ticker.old ticker.new turns × AreCounted words.now turns counts) }
     ensures failed { IfErr result.ended (λ e. Failed D.seen D.may_leave D.moment D.left_since D.fault_count L.sent L.given L.fault_count T.coming words.now (status_of e) (all_there disks) (all_there result.disks) link.old link.new ticker.old ticker.new) }
 {
-    let mut peer = match start(rt, alloc, words, disks) {
-        Ok(peer) => peer,
+    let mut server = match start(rt, alloc, words, disks) {
+        Ok(server) => server,
         Err(refused) => {
             return Outcome {
                 ended: Err(refused.error),
@@ -48,10 +49,16 @@ fn run<L: Link, D: Disk, T: Ticker, R: Threads + Sync>(
             };
         }
     };
-    let ended = turns(rt, alloc, words, link, ticker, &mut peer);
+    let ended = turns(rt, alloc, words, link, ticker, &mut server);
+    let Server {
+        peer,
+        facts,
+        unsent: _unsent,
+    } = server;
+    let stores = peer.into_stores();
     Outcome {
         ended,
-        disks: close(peer.into_stores()),
+        disks: close(Storage { stores, facts }),
     }
 }
 

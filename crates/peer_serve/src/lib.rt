@@ -5,9 +5,11 @@
 //! `specs/DiskPeers` what its stores may answer and what they hold.
 #![tactic(auto)]
 
+mod commit;
 mod disks;
 mod error;
 mod job;
+mod server;
 mod starting;
 mod turns;
 

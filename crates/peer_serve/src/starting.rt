@@ -1,15 +1,19 @@
-ghost use Rattle.std.specs.Prelude.{◌≡◌, IfOk, IfErr};
+ghost use Rattle.std.specs.Prelude.{◌≡◌, [], IfOk, IfErr};
 ghost use Rattle.ens_base.specs.View.{IsPeer};
 ghost use Rattle.peer_serve.specs.DiskPeers.{all_there};
 ghost use Rattle.peer_serve.specs.Faults.{status_of};
+ghost use Rattle.fact_commit.specs.Held.{held_kept};
+ghost use Rattle.fact_store.specs.Files.{file_kept};
 ghost use Rattle.peer_serve.specs.Starting.{Began, LogsOpened, LogsRefused, Opened, Refused as IsRefused, Unopened};
 ghost use Rattle.peer_serve.specs.Turning.{IsReady};
 
-use crate::disks::{DiskPeer, DiskStores, Three, close};
+use crate::disks::{Storage, Three, close};
 use crate::error::{ServeError, keep_error, peer_error, store_error};
+use crate::server::Server;
 use disk_stores::{DiskBackend, DiskNodes};
 use ens_base::{PeerWords, Refused};
 use ens_hashing::PlainHasher;
+use fact_commit::HeldFact;
 use fact_store::FactFile;
 use peer_core::{Mode, Peer, Stores};
 use slot_disk::Disk;
@@ -24,11 +28,12 @@ fn open_logs<D: Disk>(
     facts: FactFile<D>,
     nodes: D,
     objects: D,
-) -> Result<DiskStores<D>, Refused<Three<D>, ServeError>>
-    ensures facts { IfOk result (λ s. s.facts ≡ facts) }
-    ensures opened { IfOk result (λ s. LogsOpened D.seen D.may_leave D.moment D.left_since D.fault_count nodes objects (s, record {})) }
+) -> Result<Storage<D>, Refused<Three<D>, ServeError>>
+    ensures file { IfOk result (λ s. s.facts ≡ facts) }
+    ensures held { IfOk result (λ s. held_kept s.stores.facts ≡ file_kept facts) }
+    ensures opened { IfOk result (λ s. LogsOpened D.seen D.fault_count nodes objects (s.stores, record {})) }
     ensures kept { IfErr result (λ r. r.held.facts ≡ facts.slots.disk) }
-    ensures refused { IfErr result (λ r. LogsRefused D.seen D.may_leave D.moment D.left_since D.fault_count (status_of r.error) nodes objects r.held.nodes r.held.objects) }
+    ensures refused { IfErr result (λ r. LogsRefused D.seen D.fault_count (status_of r.error) nodes objects r.held.nodes r.held.objects) }
 {
     let nodes = match DiskNodes::open(alloc, nodes) {
         Ok(nodes) => nodes,
@@ -44,11 +49,16 @@ fn open_logs<D: Disk>(
         }
     };
     match DiskBackend::open(alloc, objects) {
-        Ok(backend) => Ok(Stores {
-            backend,
-            tree: Tree::unopened(nodes, TreeVersion::Two),
-            facts,
-        }),
+        Ok(backend) => {
+            let mut facts = facts;
+            let held = HeldFact::of(&mut facts);
+            let stores = Stores {
+                backend,
+                tree: Tree::unopened(nodes, TreeVersion::Two),
+                facts: held,
+            };
+            Ok(Storage { stores, facts })
+        }
         Err(refused) => Err(Refused {
             error: store_error(refused.error),
             held: Three {
@@ -64,8 +74,8 @@ fn open_logs<D: Disk>(
 fn open<D: Disk>(
     alloc: Global,
     disks: Three<D>,
-) -> Result<DiskStores<D>, Refused<Three<D>, ServeError>>
-    ensures opened { IfOk result (λ s. Opened D.seen D.may_leave D.moment D.left_since D.fault_count (all_there disks) (s, record {})) }
+) -> Result<Storage<D>, Refused<Three<D>, ServeError>>
+    ensures opened { IfOk result (λ s. Opened D.seen D.may_leave D.moment D.left_since D.fault_count (all_there disks) (s.stores, record {}) s.facts) }
     ensures unopened { IfErr result (λ r. Unopened D.seen D.may_leave D.moment D.left_since D.fault_count (status_of r.error) (all_there disks) (all_there r.held)) }
 {
     let Three {
@@ -97,13 +107,15 @@ pub(crate) fn start<D: Disk, R: Threads + Sync>(
     alloc: Global,
     words: &PeerWords,
     disks: Three<D>,
-) -> Result<DiskPeer<D>, Refused<Three<D>, ServeError>>
+) -> Result<Server<D>, Refused<Three<D>, ServeError>>
     requires { IsPeer words.now.me }
-    ensures began { IfOk result (λ p. Began D.seen D.may_leave D.moment D.left_since D.fault_count words.now (all_there disks) p.machine.state (p.machine.stores, record {})) }
-    ensures ready { IfOk result (λ p. IsReady words.now p) }
+    ensures began { IfOk result (λ s. Began D.seen D.may_leave D.moment D.left_since D.fault_count words.now (all_there disks) s.peer.machine.state (s.peer.machine.stores, record {}) s.facts) }
+    ensures ready { IfOk result (λ s. IsReady words.now s) }
+    ensures unsent { IfOk result (λ s. s.unsent.items ≡ []) }
     ensures refused { IfErr result (λ r. IsRefused D.seen D.may_leave D.moment D.left_since D.fault_count words.now (status_of r.error) (all_there disks) (all_there r.held)) }
 {
-    let stores = open(alloc, disks)?;
+    let opened = open(alloc, disks)?;
+    let Storage { stores, facts } = opened;
     let mode = Mode {
         sealing: true,
         tree: TreeVersion::Two,
@@ -117,10 +129,17 @@ pub(crate) fn start<D: Disk, R: Threads + Sync>(
         stores,
         &mut PlainHasher,
     ) {
-        Ok(peer) => Ok(peer),
+        Ok(peer) => Ok(Server {
+            peer,
+            facts,
+            unsent: Vec::new(alloc),
+        }),
         Err(refused) => Err(Refused {
             error: peer_error(refused.error),
-            held: close(refused.held),
+            held: close(Storage {
+                stores: refused.held,
+                facts,
+            }),
         }),
     }
 }

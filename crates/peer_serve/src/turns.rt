@@ -1,25 +1,28 @@
-ghost use Rattle.std.specs.Prelude.{◌≡◌, ◌≤◌, ◌<◌, ◌+◌, ◌-◌, ◌^◌, [], ◌∷◌, ℕ, List, Option, Some, None, IfOk, IfErr, OnOk, OnErr, length, true};
+ghost use Rattle.std.specs.Prelude.{◌≡◌, ◌≤◌, ◌<◌, ◌+◌, ◌-◌, ◌^◌, [], ◌∷◌, ◌++◌, ℕ, List, Option, Some, None, IfOk, IfErr, OnOk, OnErr, length, true};
 ghost use Rattle.ens_base.specs.Causes.{Rose};
 ghost use Rattle.ens_outside.specs.Links.{AnswersNext};
 ghost use Rattle.ens_base.specs.View.{IsPeer};
 ghost use Rattle.peer_plan.specs.Drives.{MayCome, step_of};
-ghost use Rattle.peer_plan.specs.Kept.{AllMayGo};
 ghost use Rattle.peer_serve.specs.DiskPeers.{disks_do, disks_refuse};
 ghost use Rattle.peer_serve.specs.Faults.{status_of};
-ghost use Rattle.peer_serve.specs.Turning.{AreCounted, Fell, FindBroke, IsFound, IsReady, LookBroke, LookMade, Place, RanInto, TickMade, Took, TurnBroke, TurnMade, TurnsBroke, TurnsMade, point};
+ghost use Rattle.peer_serve.specs.Commits.{IsSendable};
+ghost use Rattle.peer_serve.specs.Lines.{looked, posted};
+ghost use Rattle.peer_serve.specs.Rounds.{AllMade, BrokeAt};
+ghost use Rattle.peer_serve.specs.Turning.{AreCounted, CanStep, FindBroke, IsFound, IsReady, LookBroke, LookMade, Place, RanInto, StepBroke, Stepped, TickCame, TurnBroke, TurnMade, begun_at, point};
 ghost use Rattle.peer_serve.specs.declared.error.ServeError.TheVariants as errors;
 ghost use Rattle.step_plans.specs.Outboxes.{out_of};
 ghost use Rattle.step_plans.specs.Plans.{Finished, Runs};
-ghost use Rattle.turn_spec.specs.TurnLaws.{AllTo, ComesFrom};
+ghost use Rattle.turn_spec.specs.TurnLaws.{ComesFrom};
 ghost use Rattle.turn_spec.specs.Going.{Grew};
 ghost use Rattle.turn_spec.specs.Turns.{Turn, is_client, tick_if};
 
+use crate::commit::{commit, end_turn};
 use crate::disks::DiskPeer;
 use crate::error::{ServeError, link_error, peer_error};
+use crate::server::Server;
 use ens_base::PeerWords;
 use ens_hashing::PlainHasher;
 use ens_outside::{Link, Ticker};
-use frame_sending::send_out;
 use peer_frames::event_of;
 use peer_state::Event;
 use slot_disk::Disk;
@@ -54,14 +57,13 @@ fn take_step<D: Disk, R: Threads + Sync>(
     peer: &mut DiskPeer<D>,
     event: Event,
 ) -> Result<Outbox, ServeError>
-    requires ready { IsReady words.now peer.old }
+    requires ready { CanStep words.now peer.old }
     requires may { MayCome words.now.me event }
     requires from { ComesFrom is_client event }
-    ensures ran { IfOk result (λ out. Runs (disks_do D.seen D.may_leave D.moment D.left_since D.fault_count) (disks_refuse D.seen D.may_leave D.moment D.left_since D.fault_count) (step_of words.now.me event peer.old.machine.state) (peer.old.machine.stores, record {}) [] (Finished peer.new.machine.state (out_of out)) (peer.new.machine.stores, record {}) out.notes.items) }
-    ensures ready { OnOk result (IsReady words.now peer.new) }
-    ensures may_go { IfOk result (λ out. AllMayGo words.now.me (out_of out)) }
-    ensures clients { IfOk result (λ out. AllTo is_client out.answers.items) }
-    ensures stopped { IfErr result (λ e. RanInto (disks_do D.seen D.may_leave D.moment D.left_since D.fault_count) (disks_refuse D.seen D.may_leave D.moment D.left_since D.fault_count) (status_of e) (step_of words.now.me event peer.old.machine.state) (peer.old.machine.stores, record {}) (peer.new.machine.stores, record {})) }
+    ensures ran { IfOk result (λ out. Runs (disks_do D.seen D.fault_count) (disks_refuse D.seen D.fault_count) (step_of words.now.me event peer.old.machine.state) (peer.old.machine.stores, record {}) [] (Finished peer.new.machine.state (out_of out)) (peer.new.machine.stores, record {}) out.notes.items) }
+    ensures ready { OnOk result (CanStep words.now peer.new) }
+    ensures sendable { IfOk result (IsSendable words.now.me) }
+    ensures stopped { IfErr result (λ e. RanInto (disks_do D.seen D.fault_count) (disks_refuse D.seen D.fault_count) (status_of e) (step_of words.now.me event peer.old.machine.state) (peer.old.machine.stores, record {}) (peer.new.machine.stores, record {})) }
     ensures no_link { IfErr result (λ e. e ≡ errors.Link → ⊥) }
 {
     let mut out = Outbox::new(alloc);
@@ -71,30 +73,38 @@ fn take_step<D: Disk, R: Threads + Sync>(
     }
 }
 
-/// Takes one step, and sends what it puts out.
-fn step<L: Link, D: Disk, R: Threads + Sync>(
+/// Appends what a step put out to what waits for the next commit.
+fn keep(unsent: &mut Vec<Outbox>, out: Outbox) -> Result<(), ServeError>
+    ensures more { OnOk result (unsent.new.items ≡ unsent.old.items ++ out ∷ []) }
+    ensures same { OnErr result (unsent.new.items ≡ unsent.old.items) }
+    ensures memory { IfErr result (λ e. e ≡ errors.Memory) }
+{
+    if unsent.push(out).is_err() {
+        return Err(ServeError::Memory);
+    }
+    Ok(())
+}
+
+/// Takes one step. What it puts out waits for the next commit.
+fn step<D: Disk, R: Threads + Sync>(
     rt: &R,
     alloc: Global,
     words: &PeerWords,
-    link: &mut L,
-    peer: &mut DiskPeer<D>,
+    server: &mut Server<D>,
     event: Event,
 ) -> Result<(), ServeError>
-    requires me { IsPeer words.now.me }
-    requires ready { IsReady words.now peer.old }
+    requires ready { IsReady words.now server.old }
     requires may { MayCome words.now.me event }
     requires from { ComesFrom is_client event }
-    ensures took { OnOk result (Took (disks_do D.seen D.may_leave D.moment D.left_since D.fault_count) (disks_refuse D.seen D.may_leave D.moment D.left_since D.fault_count) L.sent L.given words.now.me [] (event ∷ []) (point peer.old link.old) (point peer.new link.new)) }
-    ensures ready { OnOk result (IsReady words.now peer.new) }
-    ensures fell { IfErr result (λ e. Fell (disks_do D.seen D.may_leave D.moment D.left_since D.fault_count) (disks_refuse D.seen D.may_leave D.moment D.left_since D.fault_count) L.sent L.given words.now.me (status_of e) (Some event) (point peer.old link.old) (point peer.new link.new)) }
-    ensures later { L.fault_count link.old ≤ L.fault_count link.new }
-    ensures fault { IfErr result (λ e. e ≡ errors.Link → Rose (L.fault_count link.old) (L.fault_count link.new)) }
+    ensures stepped { OnOk result (Stepped D.seen D.fault_count words.now.me event server.old server.new) }
+    ensures ready { OnOk result (IsReady words.now server.new) }
+    ensures broke { IfErr result (λ e. StepBroke D.seen D.fault_count words.now.me event (status_of e) server.old server.new) }
+    ensures file { server.new.facts ≡ server.old.facts }
+    ensures no_link { IfErr result (λ e. e ≡ errors.Link → ⊥) }
 {
-    let out = take_step(rt, alloc, words, peer, event)?;
-    match send_out(alloc, words.me, link, out) {
-        Ok(()) => Ok(()),
-        Err(e) => Err(link_error(e)),
-    }
+    let out = take_step(rt, alloc, words, &mut server.peer, event)?;
+    keep(&mut server.unsent, out)?;
+    Ok(())
 }
 
 /// Returns what the peer does on the bytes of a frame.
@@ -135,101 +145,105 @@ fn find<L: Link>(alloc: Global, words: &PeerWords, link: &mut L) -> Result<Found
     read(alloc, words, &bytes)
 }
 
-/// Looks once, and takes a step on the frame that is found, if the peer takes it.
+/// Looks once, and takes a step on the frame that is found, if the peer takes it. Returns whether nothing
+/// was found.
 fn look<L: Link, D: Disk, R: Threads + Sync>(
     rt: &R,
     alloc: Global,
     words: &PeerWords,
     link: &mut L,
-    peer: &mut DiskPeer<D>,
+    server: &mut Server<D>,
     counts: &mut Counts,
-) -> Result<(), ServeError>
+) -> Result<bool, ServeError>
     requires peers { words.now.peers ≤ 31 }
-    requires me { IsPeer words.now.me }
-    requires ready { IsReady words.now peer.old }
+    requires ready { IsReady words.now server.old }
     requires room { counts.old.taken + counts.old.ignored < 2 ^ 64 - 1 }
-    ensures made { OnOk result (LookMade (disks_do D.seen D.may_leave D.moment D.left_since D.fault_count) (disks_refuse D.seen D.may_leave D.moment D.left_since D.fault_count) L.sent L.given words.now (point peer.old link.old) (point peer.new link.new) counts.old counts.new) }
-    ensures ready { OnOk result (IsReady words.now peer.new) }
-    ensures broke { IfErr result (λ e. LookBroke (disks_do D.seen D.may_leave D.moment D.left_since D.fault_count) (disks_refuse D.seen D.may_leave D.moment D.left_since D.fault_count) L.sent L.given words.now (status_of e) (point peer.old link.old) (point peer.new link.new)) }
+    ensures made { OnOk result (LookMade (disks_do D.seen D.fault_count) (disks_refuse D.seen D.fault_count) (posted L.sent words.now.me) (looked L.given) words.now (point server.old link.old) (point server.new link.new) counts.old counts.new) }
+    ensures ready { OnOk result (IsReady words.now server.new) }
+    ensures file { server.new.facts ≡ server.old.facts }
+    ensures sent { Grew (L.sent link.old) (L.sent link.new) [] }
+    ensures broke { IfErr result (λ e. LookBroke (disks_do D.seen D.fault_count) (disks_refuse D.seen D.fault_count) (posted L.sent words.now.me) (looked L.given) words.now (status_of e) (point server.old link.old) (point server.new link.new)) }
     ensures later { L.fault_count link.old ≤ L.fault_count link.new }
     ensures fault { IfErr result (λ e. e ≡ errors.Link → Rose (L.fault_count link.old) (L.fault_count link.new)) }
 {
     match find(alloc, words, link)? {
-        Found::Nothing => Ok(()),
+        Found::Nothing => Ok(true),
         Found::Ignored => {
             counts.ignored += 1;
-            Ok(())
+            Ok(false)
         }
         Found::Taken(event) => {
             counts.taken += 1;
-            step(rt, alloc, words, link, peer, event)
+            step(rt, alloc, words, server, event)?;
+            Ok(false)
         }
     }
 }
 
 /// Asks the ticker once, and takes a step on a tick that is due.
-fn tick<L: Link, D: Disk, T: Ticker, R: Threads + Sync>(
+fn tick<D: Disk, T: Ticker, R: Threads + Sync>(
     rt: &R,
     alloc: Global,
     words: &PeerWords,
-    link: &mut L,
     ticker: &mut T,
-    peer: &mut DiskPeer<D>,
+    server: &mut Server<D>,
 ) -> Result<(), ServeError>
-    requires me { IsPeer words.now.me }
-    requires ready { IsReady words.now peer.old }
-    ensures made { OnOk result (TickMade (disks_do D.seen D.may_leave D.moment D.left_since D.fault_count) (disks_refuse D.seen D.may_leave D.moment D.left_since D.fault_count) L.sent L.given T.coming words.now (point peer.old link.old) (point peer.new link.new) ticker.old ticker.new) }
-    ensures ready { OnOk result (IsReady words.now peer.new) }
-    ensures fell { IfErr result (λ e. Fell (disks_do D.seen D.may_leave D.moment D.left_since D.fault_count) (disks_refuse D.seen D.may_leave D.moment D.left_since D.fault_count) L.sent L.given words.now.me (status_of e) (Some Event.Tick) (point peer.old link.old) (point peer.new link.new)) }
+    requires ready { IsReady words.now server.old }
+    ensures made { OnOk result (TickCame D.seen D.fault_count T.coming words.now.me server.old server.new ticker.old ticker.new) }
+    ensures ready { OnOk result (IsReady words.now server.new) }
+    ensures broke { IfErr result (λ e. StepBroke D.seen D.fault_count words.now.me Event.Tick (status_of e) server.old server.new) }
     ensures due { OnErr result (AnswersNext (T.coming ticker.old) (T.coming ticker.new) true) }
-    ensures later { L.fault_count link.old ≤ L.fault_count link.new }
-    ensures fault { IfErr result (λ e. e ≡ errors.Link → Rose (L.fault_count link.old) (L.fault_count link.new)) }
+    ensures file { server.new.facts ≡ server.old.facts }
+    ensures no_link { IfErr result (λ e. e ≡ errors.Link → ⊥) }
 {
     if ticker.due() {
-        step(rt, alloc, words, link, peer, Event::Tick)
+        step(rt, alloc, words, server, Event::Tick)
     } else {
         Ok(())
     }
 }
 
-/// Makes one turn: a look, and then a question to the ticker.
+/// Makes one turn: a look, and then a question to the ticker. Returns whether the look found nothing.
 fn turn<L: Link, D: Disk, T: Ticker, R: Threads + Sync>(
     rt: &R,
     alloc: Global,
     words: &PeerWords,
     link: &mut L,
     ticker: &mut T,
-    peer: &mut DiskPeer<D>,
+    server: &mut Server<D>,
     counts: &mut Counts,
-) -> Result<(), ServeError>
+) -> Result<bool, ServeError>
     requires peers { words.now.peers ≤ 31 }
-    requires me { IsPeer words.now.me }
-    requires ready { IsReady words.now peer.old }
+    requires ready { IsReady words.now server.old }
     requires room { counts.old.taken + counts.old.ignored < 2 ^ 64 - 1 }
-    ensures made { OnOk result (TurnMade (disks_do D.seen D.may_leave D.moment D.left_since D.fault_count) (disks_refuse D.seen D.may_leave D.moment D.left_since D.fault_count) L.sent L.given T.coming words.now (point peer.old link.old) (point peer.new link.new) ticker.old ticker.new counts.old counts.new) }
-    ensures ready { OnOk result (IsReady words.now peer.new) }
-    ensures broke { IfErr result (λ e. TurnBroke (disks_do D.seen D.may_leave D.moment D.left_since D.fault_count) (disks_refuse D.seen D.may_leave D.moment D.left_since D.fault_count) L.sent L.given T.coming words.now (status_of e) (point peer.old link.old) (point peer.new link.new) ticker.old ticker.new) }
+    ensures made { OnOk result (TurnMade (disks_do D.seen D.fault_count) (disks_refuse D.seen D.fault_count) (posted L.sent words.now.me) (looked L.given) T.coming words.now (point server.old link.old) (point server.new link.new) ticker.old ticker.new counts.old counts.new) }
+    ensures ready { OnOk result (IsReady words.now server.new) }
+    ensures file { server.new.facts ≡ server.old.facts }
+    ensures sent { Grew (L.sent link.old) (L.sent link.new) [] }
+    ensures broke { IfErr result (λ e. TurnBroke (disks_do D.seen D.fault_count) (disks_refuse D.seen D.fault_count) (posted L.sent words.now.me) (looked L.given) T.coming words.now (status_of e) (point server.old link.old) (point server.new link.new) ticker.old ticker.new) }
     ensures later { L.fault_count link.old ≤ L.fault_count link.new }
     ensures fault { IfErr result (λ e. e ≡ errors.Link → Rose (L.fault_count link.old) (L.fault_count link.new)) }
 {
-    look(rt, alloc, words, link, peer, counts)?;
-    tick(rt, alloc, words, link, ticker, peer)
+    let is_quiet = look(rt, alloc, words, link, server, counts)?;
+    tick(rt, alloc, words, ticker, server)?;
+    Ok(is_quiet)
 }
 
-/// Makes all turns.
+/// Makes all turns, and ends with a commit.
 pub(crate) fn turns<L: Link, D: Disk, T: Ticker, R: Threads + Sync>(
     rt: &R,
     alloc: Global,
     words: &PeerWords,
     link: &mut L,
     ticker: &mut T,
-    peer: &mut DiskPeer<D>,
+    server: &mut Server<D>,
 ) -> Result<Counts, ServeError>
     requires peers { words.now.peers ≤ 31 }
     requires me { IsPeer words.now.me }
-    requires ready { IsReady words.now peer.old }
-    ensures made { IfOk result (λ counts. (turns : List Turn) × (length turns ≡ words.now.turns) × TurnsMade (disks_do D.seen D.may_leave D.moment D.left_since D.fault_count) (disks_refuse D.seen D.may_leave D.moment D.left_since D.fault_count) L.sent L.given T.coming words.now (point peer.old link.old) (point peer.new link.new) ticker.old ticker.new turns × AreCounted words.now turns counts) }
-    ensures broke { IfErr result (λ e. (turns : List Turn) × (place : Place) × (length turns < words.now.turns) × TurnsBroke (disks_do D.seen D.may_leave D.moment D.left_since D.fault_count) (disks_refuse D.seen D.may_leave D.moment D.left_since D.fault_count) L.sent L.given T.coming words.now (status_of e) (point peer.old link.old) (point peer.new link.new) ticker.old ticker.new turns place) }
+    requires ready { IsReady words.now server.old }
+    requires none { server.old.unsent.items ≡ [] }
+    ensures made { IfOk result (λ counts. (turns : List Turn) × (length turns ≡ words.now.turns) × AllMade D.seen D.may_leave D.moment D.left_since D.fault_count L.sent L.given T.coming words.now server.old server.new link.old link.new ticker.old ticker.new turns × AreCounted words.now turns counts) }
+    ensures broke { IfErr result (λ e. (turns : List Turn) × (place : Place) × (length turns + begun_at place ≤ words.now.turns) × BrokeAt D.seen D.may_leave D.moment D.left_since D.fault_count L.sent L.given T.coming words.now (status_of e) server.old server.new link.old link.new ticker.old ticker.new turns place) }
     ensures later { L.fault_count link.old ≤ L.fault_count link.new }
     ensures fault { IfErr result (λ e. e ≡ errors.Link → Rose (L.fault_count link.old) (L.fault_count link.new)) }
 {
@@ -237,8 +251,12 @@ pub(crate) fn turns<L: Link, D: Disk, T: Ticker, R: Threads + Sync>(
         taken: 0,
         ignored: 0,
     };
+    let mut waiting = 0;
     for _made in 0..words.turns {
-        turn(rt, alloc, words, link, ticker, peer, &mut counts)?;
+        let is_quiet = turn(rt, alloc, words, link, ticker, server, &mut counts)?;
+        let left = end_turn(alloc, words, link, server, is_quiet, waiting + 1)?;
+        waiting = left;
     }
+    commit(alloc, words, link, server)?;
     Ok(counts)
 }

@@ -12,7 +12,10 @@ use std::thread::Threads;
 /// The frame of a call of client 32 to peer 1: an overwrite of the key `k` by `v`.
 const OVERWRITE: &str = "524502120000002000000001000e000000000000000107016b000176";
 
-/// The answer to it, in epoch 1.1.
+/// The frame of the same, as the second call of that client.
+const OVERWRITE_AGAIN: &str = "524502120000002000000001000e000000000000000207016b000176";
+
+/// The answer to the first, in epoch 1.1.
 const WRITTEN: &str = "52450213000000010000002000\
      1d0000000000000001030000000000000001000000010000000000000001";
 
@@ -167,5 +170,25 @@ fn a_disk_whose_first_call_fails_is_a_store_fault(rt: HostRuntime) -> Result<(),
     assert!(rt; ended.status == Status::StoreFault);
     assert!(rt; ended.text.bytes() == b"store fault\n".as_slice());
     assert!(rt; disks.facts.is_some() && disks.nodes.is_some() && disks.objects.is_some());
+    Ok(())
+}
+
+#[test]
+fn puts_that_come_one_after_another_share_a_save(rt: HostRuntime) -> Result<(), Fail> {
+    let alloc = rt.alloc();
+    let mut one = empty_disks(alloc)?;
+    let ended = served(&rt, alloc, &mut one, after_six(alloc, OVERWRITE)?, 6)?;
+    assert!(rt; ended.link.sent().len() == 1);
+    let mut two = empty_disks(alloc)?;
+    let mut looks = after_six(alloc, OVERWRITE)?;
+    looks.push(Some(bytes(alloc, OVERWRITE_AGAIN)?))?;
+    let ended = served(&rt, alloc, &mut two, looks, 6)?;
+    assert!(rt; ended.link.sent().len() == 2);
+    let (Some(one), Some(two)) = (one.facts, two.facts) else {
+        return Err("no disk".into());
+    };
+    // The serial numbers of both slots.
+    assert!(rt; one.bytes().get(1..9) == two.bytes().get(1..9));
+    assert!(rt; one.bytes().get(513..521) == two.bytes().get(513..521));
     Ok(())
 }

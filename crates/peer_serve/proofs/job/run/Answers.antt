@@ -2,7 +2,6 @@ use Rattle.std.proofs.Common.{◌∙◌, ap, inl}
 use Rattle.peer_serve.proofs.Ending.{interrupted, served}
 use Rattle.peer_serve.proofs.Finishing.{if_err_both, if_ok}
 use Rattle.peer_serve.specs.DiskPeers.{disks_under}
-use Rattle.peer_serve.specs.Turning.{point}
 use Rattle.peer_serve.proofs.job.run.Goals as goal
 
 pub returns-clause-served : goal.returns-clause-served
@@ -10,8 +9,7 @@ returns-clause-served g c =
     if_ok c.turns-ended.result c.turns-ended.ensures.made
     (λ counts did. (
       did.0,
-      served _ _ _ _ _ g.met.D.Disk.counts_now _ _ _ _ _ _ _ (point c.in-Ok.peer c.args.link.now) (point c.turns-ended.new.peer c.turns-ended.new.link) c.args.ticker.now c.turns-ended.new.ticker did.0 (c.close.ensures ∙ ap disks_under c.into_stores.ensures) did.1 c.in-Ok.ensures.began
-          did.2,
+      served _ _ _ _ _ g.met.D.Disk.counts_now _ _ _ _ _ _ _ c.in-Ok.server c.turns-ended.new.server c.args.link.now c.turns-ended.new.link c.args.ticker.now c.turns-ended.new.ticker did.0 (c.close.ensures ∙ ap (λ s. disks_under s c.turns-ended.new.server.facts) c.into_stores-stores.ensures) did.1 c.in-Ok.ensures.unsent c.in-Ok.ensures.began did.2,
       did.3,
     ))
 
@@ -22,6 +20,6 @@ returns-clause-failed g c =
     inl (
       broke.0,
       broke.1,
-      interrupted _ _ _ _ _ g.met.D.Disk.counts_now _ _ _ _ _ _ _ e (point c.in-Ok.peer c.args.link.now) (point c.turns-ended.new.peer c.turns-ended.new.link) c.args.ticker.now c.turns-ended.new.ticker broke.0 broke.1 (c.close.ensures ∙ ap disks_under c.into_stores.ensures) broke.2 c.in-Ok.ensures.began
-          broke.3 fault,
+      interrupted _ _ _ _ _ g.met.D.Disk.counts_now _ _ _ _ _ _ _ e c.in-Ok.server c.turns-ended.new.server c.args.link.now c.turns-ended.new.link c.args.ticker.now c.turns-ended.new.ticker broke.0 broke.1 (c.close.ensures ∙ ap (λ s. disks_under s c.turns-ended.new.server.facts) c.into_stores-stores.ensures) broke.2
+          c.in-Ok.ensures.unsent c.in-Ok.ensures.began broke.3 fault,
     ))

@@ -1,18 +1,44 @@
 use Rattle.std.proofs.Common.{refl}
 use Rattle.std.proofs.lemmas.Result.{err_from_is_err_and}
-use Rattle.peer_serve.proofs.Finishing.{if_err}
-use Rattle.peer_serve.proofs.Making.{look_failed, look_fell}
+use Rattle.peer_serve.proofs.Lining.{none_sent}
+use Rattle.peer_serve.proofs.Making.{look_failed, look_fell, look_ignored, look_nothing, look_took, taken_counted}
+use Rattle.peer_serve.proofs.Stepping.{step_fell, took_step}
+use Rattle.peer_serve.specs.DiskPeers.{disks_do, disks_refuse}
 use Rattle.peer_serve.specs.Faults.{status_of}
+use Rattle.peer_serve.specs.Lines.{frames_waiting, looked, posted}
 use Rattle.peer_serve.specs.Turning.{point}
 use Rattle.peer_serve.proofs.turns.look.Goals as goal
 
 pub returns-in_err-find-clause-broke : goal.returns-in_err-find-clause-broke
 returns-in_err-find-clause-broke g c =
     let p = err_from_is_err_and c.from_residual.result c.from_residual.ensures.1 in
-    rw (p.1, p.2) (look_failed _ _ _ _ _ _ (point c.args.peer.now c.args.link.now) (point c.args.peer.now c.find.new.link) c.in_err-find.ensures.broke refl refl c.find.ensures.sent)
+    rw (p.1, p.2)
+    (look_failed (disks_do g.D.Disk.seen g.D.Disk.fault_count) (disks_refuse g.D.Disk.seen g.D.Disk.fault_count) (posted g.L.Link.sent c.args.words.now.me) (looked g.L.Link.given) c.args.words.now _ (point c.args.server.now c.args.link.now) (point c.args.server.now c.find.new.link) c.in_err-find.ensures.broke refl refl
+    (none_sent (g.L.Link.sent c.args.link.now) (g.L.Link.sent c.find.new.link) (frames_waiting c.args.words.now.me c.args.server.now.unsent.items) c.find.ensures.sent))
 
-pub returns-in-Taken-clause-broke : goal.returns-in-Taken-clause-broke
-returns-in-Taken-clause-broke g c =
-    if_err c.step.result c.step.ensures.fell
-    (λ e fell.
-    look_fell _ _ _ _ _ (status_of e) c.in-Taken.event (point c.args.peer.now c.args.link.now) (point c.args.peer.now c.find.new.link) (point c.step.new.peer c.step.new.link) refl refl (rw c.in-Taken.is at c.in_ok-find.ensures.found) c.find.ensures.sent fell)
+pub returns-in_err-step-in-Taken-clause-broke : goal.returns-in_err-step-in-Taken-clause-broke
+returns-in_err-step-in-Taken-clause-broke g c =
+    let p = err_from_is_err_and c.from_residual-in_err-step-in-Taken.result c.from_residual-in_err-step-in-Taken.ensures.1 in
+    rw (p.1, p.2)
+    (look_fell (disks_do g.D.Disk.seen g.D.Disk.fault_count) (disks_refuse g.D.Disk.seen g.D.Disk.fault_count) (posted g.L.Link.sent c.args.words.now.me) (looked g.L.Link.given) c.args.words.now (status_of c.in_err-step-in-Taken.field-0.0) c.in-Taken.event (point c.args.server.now c.args.link.now) (point c.args.server.now c.find.new.link) (point c.step.new.server c.find.new.link) refl refl (rw c.in-Taken.is at c.in_ok-find.ensures.found)
+    (none_sent (g.L.Link.sent c.args.link.now) (g.L.Link.sent c.find.new.link) (frames_waiting c.args.words.now.me c.args.server.now.unsent.items) c.find.ensures.sent)
+    (step_fell g.D.Disk.seen g.D.Disk.fault_count g.L.Link.sent g.L.Link.given c.args.words.now.me c.in-Taken.event c.args.server.now c.step.new.server c.find.new.link c.in_err-step-in-Taken.field-0.0 c.in_err-step-in-Taken.ensures.no_link c.in_err-step-in-Taken.ensures.broke))
+
+pub returns-in-Nothing-clause-made : goal.returns-in-Nothing-clause-made
+returns-in-Nothing-clause-made g c =
+    let found = rw c.in-Nothing.is at c.in_ok-find.ensures.found in
+    look_nothing (disks_do g.D.Disk.seen g.D.Disk.fault_count) (disks_refuse g.D.Disk.seen g.D.Disk.fault_count) (posted g.L.Link.sent c.args.words.now.me) (looked g.L.Link.given) c.args.words.now (point c.args.server.now c.args.link.now) (point c.args.server.now c.find.new.link) c.args.counts.now found.0 found.2 refl refl found.1
+    (none_sent (g.L.Link.sent c.args.link.now) (g.L.Link.sent c.find.new.link) (frames_waiting c.args.words.now.me c.args.server.now.unsent.items) c.find.ensures.sent)
+
+pub returns-in-Ignored-clause-made : goal.returns-in-Ignored-clause-made
+returns-in-Ignored-clause-made g c =
+    let found = rw c.in-Ignored.is at c.in_ok-find.ensures.found in
+    look_ignored (disks_do g.D.Disk.seen g.D.Disk.fault_count) (disks_refuse g.D.Disk.seen g.D.Disk.fault_count) (posted g.L.Link.sent c.args.words.now.me) (looked g.L.Link.given) c.args.words.now (point c.args.server.now c.args.link.now) (point c.args.server.now c.find.new.link) c.args.counts.now _ found.0 found.2 refl refl found.1
+    (none_sent (g.L.Link.sent c.args.link.now) (g.L.Link.sent c.find.new.link) (frames_waiting c.args.words.now.me c.args.server.now.unsent.items) c.find.ensures.sent) refl refl
+
+pub returns-in_ok-step-in-Taken-clause-made : goal.returns-in_ok-step-in-Taken-clause-made
+returns-in_ok-step-in-Taken-clause-made g c =
+    let found = rw c.in-Taken.is at c.in_ok-find.ensures.found in
+    look_took (disks_do g.D.Disk.seen g.D.Disk.fault_count) (disks_refuse g.D.Disk.seen g.D.Disk.fault_count) (posted g.L.Link.sent c.args.words.now.me) (looked g.L.Link.given) c.args.words.now c.in-Taken.event (point c.args.server.now c.args.link.now) (point c.args.server.now c.find.new.link) (point c.step.new.server c.find.new.link) c.args.counts.now _ refl refl found
+    (none_sent (g.L.Link.sent c.args.link.now) (g.L.Link.sent c.find.new.link) (frames_waiting c.args.words.now.me c.args.server.now.unsent.items) c.find.ensures.sent) (taken_counted c.args.words.now found.0 c.in-Taken.event c.args.counts.now _ found.2.0 refl refl)
+    (took_step g.D.Disk.seen g.D.Disk.fault_count g.L.Link.sent g.L.Link.given c.args.words.now.me c.in-Taken.event c.args.server.now c.step.new.server c.find.new.link c.in_ok-step-in-Taken.ensures.stepped)
