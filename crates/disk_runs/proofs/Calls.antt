@@ -5,7 +5,7 @@ use Rattle.disk_stores.specs.DiskCalls.{HoldsNodes, HoldsObjects}
 use Rattle.disk_stores.specs.declared.backend.DiskBackend.{DiskBackend}
 use Rattle.disk_stores.specs.declared.nodes.DiskNodes.{DiskNodes}
 use Rattle.ens_base.specs.declared.entry.Entry.{Entry}
-use Rattle.fact_store.specs.Files.{file_faults, file_kept}
+use Rattle.fact_commit.specs.Held.{held_kept}
 use Rattle.fact_store.specs.Keeping.{Loads}
 use Rattle.held_stores.proofs.Walking.{end_was, goes_on}
 use Rattle.held_stores.proofs.Answering.{some_root, looked_end}
@@ -43,9 +43,9 @@ loads_so None (Some f) before now is = absurd (none-some (let r : Result SavedFa
 loads_so (Some f) None before now is = absurd (none-some (let r : Result SavedFact FactError = Ok f in r) is)
 loads_so (Some f) (Some g) before now is = cc
 
-module _ {D : Type 0} (seen : D → Option (List ℕ)) (may_leave : D → List ℕ → Type 0) (moment : D → ℕ) (left_since : D → ℕ → List ℕ → Type 0) (faults : D → ℕ) where
+module _ {D : Type 0} (seen : D → Option (List ℕ)) (faults : D → ℕ) where
   abbrev pub does : OnDisks D → (call : Call) → AnswerOf call → OnDisks D → Type 0
-  does = disks_do seen may_leave moment left_since faults
+  does = disks_do seen faults
 
   abbrev Walked_to : {A : Type 0} → Plan A → OnDisks D → Result A Position → OnDisks D → Type 0
   Walked_to plan s out t = Walks (tree_does seen faults) plan (s.0.tree, s.1) out (t.0.tree, t.1)
@@ -60,7 +60,7 @@ module _ {D : Type 0} (seen : D → Option (List ℕ)) (may_leave : D → List �
   came_so call h hashed a t came is result stands = record { result = ap (λ (x : Answered call). x.result) is ∙ result; stands = subst (λ (x : Answered call). StandsOpen seen t x.held.stores) (sym is) stands }
 
   -- no store changed
-  still : (s t : OnDisks D) (h : HeldStores) → t.0.backend ≡ s.0.backend → t.0.tree ≡ s.0.tree → file_kept t.0.facts ≡ file_kept s.0.facts → StandsOpen seen s h → StandsOpen seen t h
+  still : (s t : OnDisks D) (h : HeldStores) → t.0.backend ≡ s.0.backend → t.0.tree ≡ s.0.tree → held_kept t.0.facts ≡ held_kept s.0.facts → StandsOpen seen s h → StandsOpen seen t h
   still s t h backend tree facts before = record {
     stands = record {
       objects = subst (λ (b : DiskBackend D). HoldsObjects seen b h.backend.entries) (sym backend) before.stands.objects;
@@ -82,7 +82,7 @@ module _ {D : Type 0} (seen : D → Option (List ℕ)) (may_leave : D → List �
         stands = record {
           objects = subst (λ (b : DiskBackend D). HoldsObjects seen b h.backend.entries) (sym alone.0) stands.objects;
           nodes = so.holds;
-          fact = ap file_kept alone.1 ∙ stands.fact;
+          fact = ap held_kept alone.1 ∙ stands.fact;
           none = record { facts = stands.none.facts; tree = so.none; backend = stands.none.backend };
         };
         root = top ∙ ap (root h.tree.top) (sym so.end);
@@ -105,7 +105,7 @@ module _ {D : Type 0} (seen : D → Option (List ℕ)) (may_leave : D → List �
 
   -- the fact is loaded
   pub loads_answer : (a : Option SavedFact) (s t : OnDisks D) (h : HeldStores) → does s Load a t → StandsFor seen s h → h.facts.kept ≡ a
-  loads_answer a s t h did stands = sym (loads_so a h.facts.kept (file_faults faults s.0.facts) (file_faults faults t.0.facts) (subst (λ (o : Option (Result SavedFact FactError)). Loads o (file_faults faults s.0.facts) (file_faults faults t.0.facts) (Ok a)) stands.fact did.0))
+  loads_answer a s t h did stands = sym (loads_so a h.facts.kept 0 0 (subst (λ (o : Option (Result SavedFact FactError)). Loads o 0 0 (Ok a)) stands.fact did.0))
 
   -- ## Calls over an before tree
 
@@ -149,7 +149,7 @@ module _ {D : Type 0} (seen : D → Option (List ℕ)) (may_leave : D → List �
       })
   call_so (FreshTree tree) a s t h hashed did before = opens_so (FreshTree tree) tt a s t h hashed did before.stands
   call_so (OpenTree seal tree) a s t h hashed did before = opens_so (OpenTree seal tree) tt a s t h hashed did before.stands
-  call_so Root a s t h hashed did before = record { result = ap Ok (sym before.root ∙ sym did.0.0); stands = still s t h did.1.3.0 did.0.1 (ap file_kept did.1.3.1) before }
+  call_so Root a s t h hashed did before = record { result = ap Ok (sym before.root ∙ sym did.0.0); stands = still s t h did.1.3.0 did.0.1 (ap held_kept did.1.3.1) before }
   call_so (Find key) a s t h hashed did before =
       tree_so (Find key) looked root_kept (get_plan (form_of h.tree.version) h.tree.top key) (end_of a) a s t h hashed refl (looked_end a) (did.0.1 ∙ before.root) (did.2 ∙ before.version) did.1.3 (moved (λ version top. get_plan (form_of version) top key) (end_of a) s t h before did.0.0) before.stands
   call_so (Enter entry) a s t h hashed did before = enters_so entry a s t h hashed did.0 did.2 did.1.3 before
@@ -166,7 +166,7 @@ module _ {D : Type 0} (seen : D → Option (List ℕ)) (may_leave : D → List �
       stands = record {
         objects = did.0.holds h.backend.entries before.stands.objects;
         nodes = subst (λ (n : Tree (DiskNodes D)). HoldsNodes seen n.store (held_in h.tree.store)) (sym did.2.0) before.stands.nodes;
-        fact = ap file_kept did.2.1 ∙ before.stands.fact;
+        fact = ap held_kept did.2.1 ∙ before.stands.fact;
         none = before.stands.none;
       };
       root = ap (λ (n : Tree (DiskNodes D)). n.top) did.2.0 ∙ before.root;
@@ -178,10 +178,10 @@ module _ {D : Type 0} (seen : D → Option (List ℕ)) (may_leave : D → List �
         stands = record {
           objects = did.0.holds h.backend.entries before.stands.objects;
           nodes = subst (λ (n : Tree (DiskNodes D)). HoldsNodes seen n.store (held_in h.tree.store)) (sym did.2.0) before.stands.nodes;
-          fact = ap file_kept did.2.1 ∙ before.stands.fact;
+          fact = ap held_kept did.2.1 ∙ before.stands.fact;
           none = record { facts = before.stands.none.facts; tree = before.stands.none.tree; backend = before.stands.none.backend };
         };
         root = ap (λ (n : Tree (DiskNodes D)). n.top) did.2.0 ∙ before.root;
         version = ap (λ (n : Tree (DiskNodes D)). n.version) did.2.0 ∙ before.version;
       })
-  call_so (Hash bytes) a s t h hashed did before = record { result = ap Ok (sym did.0); stands = still s t h (ap (λ stores. stores.backend) did.4) (ap (λ stores. stores.tree) did.4) (ap (λ stores. file_kept stores.facts) did.4) before }
+  call_so (Hash bytes) a s t h hashed did before = record { result = ap Ok (sym did.0); stands = still s t h (ap (λ stores. stores.backend) did.4) (ap (λ stores. stores.tree) did.4) (ap (λ stores. held_kept stores.facts) did.4) before }

@@ -23,9 +23,9 @@ use Rattle.disk_runs.proofs.Calls.{does, Opens, opens_so, loads_answer, call_so}
 not_stopped : (x : State) (out : Out) (error : PeerError) → (let e : Ending State = Finished x out in e) ≡ Stopped error → ⊥
 not_stopped x out error is = cc
 
-module _ {D : Type 0} (seen : D → Option (List ℕ)) (may_leave : D → List ℕ → Type 0) (moment : D → ℕ) (left_since : D → ℕ → List ℕ → Type 0) (faults : D → ℕ) where
+module _ {D : Type 0} (seen : D → Option (List ℕ)) (faults : D → ℕ) where
   abbrev MayRun : Plan State → OnDisks D → List Note → State → Out → OnDisks D → List Note → Type 0
-  MayRun plan s ns x out t ms = Runs (does seen may_leave moment left_since faults) (disks_refuse seen may_leave moment left_since faults) plan s ns (Finished x out) t ms
+  MayRun plan s ns x out t ms = Runs (does seen faults) (disks_refuse seen faults) plan s ns (Finished x out) t ms
 
   -- the plan ends here
   ended : (y : State) (o : Out) (h : HeldStores) (hashed : List (List ℕ)) (ns ms : List Note) (x : State) (out : Out) (t : OnDisks D) → (let e : Ending State = Finished x out in e) ≡ Finished y o → ms ≡ ns → StandsOpen seen t h → RunsInMemory seen (Done y o) h hashed ns x out t ms
@@ -55,16 +55,16 @@ module _ {D : Type 0} (seen : D → Option (List ℕ)) (may_leave : D → List �
   run_so (Ask call next) s t h hashed ns ms x out before (inl cut) = absurd (not_stopped x out _ cut.0)
   run_so (Ask call next) s t h hashed ns ms x out before (inr (inl refused)) = absurd (not_stopped x out refused.0 refused.2)
   run_so (Ask call next) s t h hashed ns ms x out before (inr (inr on)) =
-      let so = call_so seen may_leave moment left_since faults call on.0 s on.1 h hashed on.2 before in
+      let so = call_so seen faults call on.0 s on.1 h hashed on.2 before in
       goes call next on.0 h hashed ns ms x out t so.result
       (run_so (next on.0) on.1 t (answered call (held_with h hashed)).held.stores (answered call (held_with h hashed)).held.hashed ns ms x out so.stands on.3)
 
   -- a plan that opens the tree first
-  opening_so : (call : Call) → Opens seen may_leave moment left_since faults call → (next : AnswerOf call → Plan State) (s t : OnDisks D) (h : HeldStores) (hashed : List (List ℕ)) (ns ms : List Note) (x : State) (out : Out) → StandsFor seen s h → MayRun (Ask call next) s ns x out t ms → RunsInMemory seen (Ask call next) h hashed ns x out t ms
+  opening_so : (call : Call) → Opens seen faults call → (next : AnswerOf call → Plan State) (s t : OnDisks D) (h : HeldStores) (hashed : List (List ℕ)) (ns ms : List Note) (x : State) (out : Out) → StandsFor seen s h → MayRun (Ask call next) s ns x out t ms → RunsInMemory seen (Ask call next) h hashed ns x out t ms
   opening_so call opens next s t h hashed ns ms x out stands (inl cut) = absurd (not_stopped x out _ cut.0)
   opening_so call opens next s t h hashed ns ms x out stands (inr (inl refused)) = absurd (not_stopped x out refused.0 refused.2)
   opening_so call opens next s t h hashed ns ms x out stands (inr (inr on)) =
-      let so = opens_so seen may_leave moment left_since faults call opens on.0 s on.1 h hashed on.2 stands in
+      let so = opens_so seen faults call opens on.0 s on.1 h hashed on.2 stands in
       goes call next on.0 h hashed ns ms x out t so.result
       (run_so (next on.0) on.1 t (answered call (held_with h hashed)).held.stores (answered call (held_with h hashed)).held.hashed ns ms x out so.stands on.3)
 
@@ -77,7 +77,7 @@ module _ {D : Type 0} (seen : D → Option (List ℕ)) (may_leave : D → List �
   opened_so mode view (Some saved) s t h hashed ns ms x out stands ran = continued_so mode.tree mode saved s t h hashed ns ms x out stands ran
 
   -- a load leaves all stores as they are
-  loaded : (a : Option SavedFact) (s t : OnDisks D) (h : HeldStores) → does seen may_leave moment left_since faults s Load a t → StandsFor seen s h → StandsFor seen t h
+  loaded : (a : Option SavedFact) (s t : OnDisks D) (h : HeldStores) → does seen faults s Load a t → StandsFor seen s h → StandsFor seen t h
   loaded a s t h did stands = subst (λ stores. StandsFor seen (stores, t.1) h) (sym (same_stores s.0 t.0 did.3.0 did.3.1 did.4)) (record { objects = stands.objects; nodes = stands.nodes; fact = stands.fact; none = stands.none })
 
   -- the start of a peer
@@ -85,12 +85,12 @@ module _ {D : Type 0} (seen : D → Option (List ℕ)) (may_leave : D → List �
   start_so mode view s t h hashed ms x out stands (inl cut) = absurd (not_stopped x out _ cut.0)
   start_so mode view s t h hashed ms x out stands (inr (inl refused)) = absurd (not_stopped x out refused.0 refused.2)
   start_so mode view s t h hashed ms x out stands (inr (inr on)) =
-      goes Load (λ kept. opened mode view kept) on.0 h hashed [] ms x out t (ap Ok (loads_answer seen may_leave moment left_since faults on.0 s on.1 h on.2 stands))
+      goes Load (λ kept. opened mode view kept) on.0 h hashed [] ms x out t (ap Ok (loads_answer seen faults on.0 s on.1 h on.2 stands))
       (opened_so mode view on.0 on.1 t h hashed [] ms x out (loaded on.0 s on.1 h on.2 stands) on.3)
 
 -- every plan and every start
-pub run_as_maps : {D : Type 0} (seen : D → Option (List ℕ)) (may_leave : D → List ℕ → Type 0) (moment : D → ℕ) (left_since : D → ℕ → List ℕ → Type 0) (faults : D → ℕ) → RunAsMaps seen may_leave moment left_since faults
-run_as_maps seen may_leave moment left_since faults = record {
-  plans = λ plan s t h hashed ns ms x out before ran. run_so seen may_leave moment left_since faults plan s t h hashed ns ms x out before ran;
-  starts = λ mode view s t h hashed ms x out stands ran. start_so seen may_leave moment left_since faults mode view s t h hashed ms x out stands ran;
+pub run_as_maps : {D : Type 0} (seen : D → Option (List ℕ)) (faults : D → ℕ) → RunAsMaps seen faults
+run_as_maps seen faults = record {
+  plans = λ plan s t h hashed ns ms x out before ran. run_so seen faults plan s t h hashed ns ms x out before ran;
+  starts = λ mode view s t h hashed ms x out stands ran. start_so seen faults mode view s t h hashed ms x out stands ran;
 }

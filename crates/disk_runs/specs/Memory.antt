@@ -2,7 +2,7 @@
 use Rattle.std.specs.Prelude.{◌≡◌, ℕ, List, [], Option}
 use Rattle.disk_stores.specs.DiskCalls.{HoldsNodes, HoldsObjects}
 use Rattle.ens_outside.specs.MemStores.{Held as NodesHeld}
-use Rattle.fact_store.specs.Files.{file_kept}
+use Rattle.fact_commit.specs.Held.{held_kept}
 use Rattle.peer_plan.specs.Starts.{start_of}
 use Rattle.peer_serve.specs.DiskPeers.{OnDisks, disks_do, disks_refuse}
 use Rattle.peer_state.specs.declared.state.Mode.{Mode}
@@ -23,7 +23,7 @@ held_in nodes = record { entries = nodes.entries; top = top_of nodes.tops }
 pub record StandsFor {D : Type 0} (seen : D → Option (List ℕ)) (s : OnDisks D) (h : HeldStores) : Type 0 where
   pub objects : HoldsObjects seen s.0.backend h.backend.entries
   pub nodes : HoldsNodes seen s.0.tree.store (held_in h.tree.store)
-  pub fact : file_kept s.0.facts ≡ kept_of h.facts.kept
+  pub fact : held_kept s.0.facts ≡ kept_of h.facts.kept
   pub none : NoneWaits h
 
 -- and the tree is open: its root and its version are the same
@@ -41,8 +41,8 @@ pub record RunsInMemory {D : Type 0} (seen : D → Option (List ℕ)) (plan : Pl
 
 -- A plan that came to its end over disks that tell comes to the same end over stores in memory; and so does
 -- a start, over disks whose tree is not open yet.
-pub record RunAsMaps {D : Type 0} (seen : D → Option (List ℕ)) (may_leave : D → List ℕ → Type 0) (moment : D → ℕ) (left_since : D → ℕ → List ℕ → Type 0) (faults : D → ℕ) : Type 0 where
+pub record RunAsMaps {D : Type 0} (seen : D → Option (List ℕ)) (faults : D → ℕ) : Type 0 where
   pub plans : (plan : Plan State) (s t : OnDisks D) (h : HeldStores) (hashed : List (List ℕ)) (ns ms : List Note) (x : State) (out : Out) → StandsOpen seen s h
-      → Runs (disks_do seen may_leave moment left_since faults) (disks_refuse seen may_leave moment left_since faults) plan s ns (Finished x out) t ms → RunsInMemory seen plan h hashed ns x out t ms
+      → Runs (disks_do seen faults) (disks_refuse seen faults) plan s ns (Finished x out) t ms → RunsInMemory seen plan h hashed ns x out t ms
   pub starts : (mode : Mode) (view : List ℕ) (s t : OnDisks D) (h : HeldStores) (hashed : List (List ℕ)) (ms : List Note) (x : State) (out : Out) → StandsFor seen s h
-      → Runs (disks_do seen may_leave moment left_since faults) (disks_refuse seen may_leave moment left_since faults) (start_of mode view) s [] (Finished x out) t ms → RunsInMemory seen (start_of mode view) h hashed [] x out t ms
+      → Runs (disks_do seen faults) (disks_refuse seen faults) (start_of mode view) s [] (Finished x out) t ms → RunsInMemory seen (start_of mode view) h hashed [] x out t ms
