@@ -1,13 +1,11 @@
 -- An act of a process is a moment of its peer in the world, which puts out what the act did.
-use Rattle.std.proofs.Common.{◌≡◌, ◌⊎◌, ◌≤◌, ◌++◌, ℕ, zero, suc, Bool, true, false, eqb, if◌then◌else◌, List, [], ◌∷◌, map, append-nil, Option, None, Some, Result, Ok, slice_get, slice_set, arith, refl, sym, ap, ◌∙◌, subst, inl, inr}
-use Rattle.std.specs.Prelude.{◌==◌}
+use Rattle.std.proofs.Common.{◌≡◌, ◌⊎◌, ◌≤◌, ◌++◌, ℕ, Bool, true, false, eqb, if◌then◌else◌, List, [], ◌∷◌, map, append-nil, Option, None, Some, slice_get, slice_set, arith, refl, sym, ap, ◌∙◌, subst, inl, inr}
 use Rattle.std.proofs.lemmas.Bool.{eqb-true, eqb-false}
 use Rattle.std.proofs.lemmas.Option.{none-some}
 use Rattle.disk_runs.proofs.Running.{run_as_maps}
 use Rattle.disk_runs.specs.Memory.{StandsFor, StandsOpen, RunsInMemory, RunAsMaps}
 use Rattle.ens_base.specs.Lists.{◌∈◌}
 use Rattle.ens_base.specs.PeerSet.{holds}
-use Rattle.ens_base.specs.View.{IsPeer}
 use Rattle.peer_fact.specs.declared.saved.SavedFact.{SavedFact}
 use Rattle.peer_lives.specs.Moments.{Found, stores_found, down_on, after, answers_in}
 use Rattle.peer_lives.specs.Premises.{IsOneProcess, FactSurvives, IsFromFrames, IsRunning, IsDown, kept_by, node_of}
@@ -29,12 +27,12 @@ use Rattle.tree_node.specs.declared.version.TreeVersion.{TreeVersion}
 use Rattle.tree_node.specs.declared.version.TreeVersion.TheVariants.{Two}
 use Rattle.turn_spec.specs.Deeds.{Deed, Did, events_in}
 use Rattle.world_spec.specs.HeldStores.{HeldStores, Ended}
-use Rattle.world_spec.specs.Nodes.{Node, Up, Down, Taken, taken, taken_of, started, stopped}
+use Rattle.world_spec.specs.Nodes.{Node, Up, Down, Taken, taken_of, started, stopped}
 use Rattle.world_spec.specs.Runs.{Run, next_event, place_of, frame_from, printed_by, sealing_first, with_taken, stepped_at, stepped, changed_at, changed, start_strings, hashing, mode_at, with_start}
 use Rattle.world_stores.specs.Facts.{kept_of}
 use Rattle.group_lives.specs.Acts.{Act, Begins, Does, Ends, Life, actor, and_deeds, answers_at, frames_by, later_acts, moment_of, noted_by, own_acts}
 use Rattle.group_lives.specs.Joined.{fact_on_disk}
-use Rattle.group_lives.specs.Lives.{AreLater, HasLived}
+use Rattle.group_lives.specs.Lives.{AreLater}
 use Rattle.group_lives.proofs.Events.{KeepsLimits, from_frames, keeps_limits}
 use Rattle.group_lives.proofs.Outputs.{answers_append, answers_printed, posted_sent}
 use Rattle.group_lives.proofs.Places.{own_head, set_get, set_other, set_twice}
@@ -50,18 +48,18 @@ kept_same (Some a) (Some b) same = cc
 apart_places : (p q : ℕ) → 1 ≤ p → 1 ≤ q → (p ≡ q → ⊥) → place_of p ≡ place_of q → ⊥
 apart_places p q first second apart same = apart (omega (arith, first, second, same))
 
-module _ {D : Type 0} (seen : D → Option (List ℕ)) (may_leave : D → List ℕ → Type 0) (moment : D → ℕ) (left_since : D → ℕ → List ℕ → Type 0) (faults : D → ℕ) (peers : ℕ) (small : peers ≤ 31) (view : List ℕ) where
+module _ {D : Type 0} (seen : D → Option (List ℕ)) (faults : D → ℕ) (peers : ℕ) (small : peers ≤ 31) (view : List ℕ) where
   abbrev does : OnDisks D → (call : Call) → AnswerOf call → OnDisks D → Type 0
-  does = disks_do seen may_leave moment left_since faults
+  does = disks_do seen faults
 
   abbrev refuses : OnDisks D → Call → PeerError → OnDisks D → Type 0
-  refuses = disks_refuse seen may_leave moment left_since faults
+  refuses = disks_refuse seen faults
 
   abbrev Later : ℕ → Option SavedFact → List Life → Type 0
   Later p fact lives = AreLater does refuses (StandsFor seen) fact_on_disk view p (kept_of fact) lives
 
-  maps : RunAsMaps seen may_leave moment left_since faults
-  maps = run_as_maps seen may_leave moment left_since faults
+  maps : RunAsMaps seen faults
+  maps = run_as_maps seen faults
 
   -- ## Where a peer is on the way through its acts
 

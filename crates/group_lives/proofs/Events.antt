@@ -1,5 +1,5 @@
 -- The event of a step that is taken on a tick, or on the bytes of a frame, keeps the limits of frames.
-use Rattle.std.proofs.Common.{◌≡◌, ◌<◌, ◌^◌, ℕ, Bool, true, false, if◌then◌else◌, List, Option, None, Some, Result, Ok, Err, refl, sym, subst, inl, inr}
+use Rattle.std.proofs.Common.{◌≡◌, ◌<◌, ◌^◌, ℕ, Bool, true, false, if◌then◌else◌, List, None, Some, Result, Ok, Err, refl, sym, subst, inl, inr}
 use Rattle.std.specs.Prelude.{◌==◌}
 use Rattle.std.proofs.lemmas.Option.{none-some, same_Some}
 use Rattle.ens_base.specs.Limits.{IsBytes, IsKey, IsCommand}
@@ -8,7 +8,7 @@ use Rattle.peer_lives.specs.Moments.{Takes}
 use Rattle.peer_lives.specs.Premises.{IsFromFrames}
 use Rattle.peer_state.specs.declared.event.Event.{Event}
 use Rattle.peer_state.specs.declared.event.Event.TheVariants as events
-use Rattle.turn_spec.specs.Turns.{event_from, event_in, event_of, event_on, is_client, is_other_peer}
+use Rattle.turn_spec.specs.Turns.{event_from, event_in, event_on, is_client, is_other_peer}
 use Rattle.wire_frames.proofs.FrameLaws.{frame_found}
 use Rattle.wire_frames.specs.Frames.{frame_of}
 use Rattle.wire_frames.specs.Messages.{IsMessage}

@@ -1,13 +1,13 @@
 -- Processes that are joined are a sound group.
-use Rattle.std.proofs.Common.{◌≡◌, ◌<◌, ◌≤◌, ◌^◌, ◌+◌, ◌-◌, ◌++◌, ℕ, zero, suc, List, [], ◌∷◌, length, map, Option, Some, replicate, slice_get, arith, append-nil, refl, sym, ap, ◌∙◌, subst, inl, inr}
+use Rattle.std.proofs.Common.{◌≡◌, ◌<◌, ◌≤◌, ◌^◌, ◌+◌, ◌-◌, ◌++◌, ℕ, suc, List, [], ◌∷◌, length, map, Option, Some, arith, append-nil, refl, sym, ap, ◌∙◌, subst, inl, inr}
 use Rattle.std.proofs.lemmas.List.{append_assoc, length-map}
 use Rattle.disk_runs.proofs.Running.{run_as_maps}
 use Rattle.disk_runs.specs.Memory.{StandsFor, RunsInMemory}
-use Rattle.ens_base.specs.Lists.{◌∈◌, AreDistinct}
+use Rattle.ens_base.specs.Lists.{◌∈◌}
 use Rattle.life_refinement.proofs.Groups.{group_runs, group_legal}
 use Rattle.life_refinement.specs.Laws.{IsRunOfProtocol}
-use Rattle.peer_lives.specs.Moments.{Moment, Takes, Found, stores_found, after, run_on, opening_of, run_of, calls_of, answers_in, answers_of}
-use Rattle.peer_lives.specs.Premises.{Always, IsSound, IsOfPeers, IsOneProcess, FactSurvives, WasSent, IsFromFrames, node_of}
+use Rattle.peer_lives.specs.Moments.{Takes, Found, stores_found, after, run_on, opening_of, calls_of, answers_in}
+use Rattle.peer_lives.specs.Premises.{Always, IsOfPeers, IsOneProcess, FactSurvives, WasSent, IsFromFrames, node_of}
 use Rattle.peer_lives.specs.Witness.{nothing_found}
 use Rattle.peer_plan.specs.Starts.{start_of}
 use Rattle.peer_serve.specs.DiskPeers.{OnDisks, disks_do, disks_refuse}
@@ -23,10 +23,10 @@ use Rattle.schedule_text.specs.declared.form.Form.TheVariants.{Three}
 use Rattle.schedule_words.specs.Spelling.{IsAmong}
 use Rattle.step_plans.specs.Plans.{nothing}
 use Rattle.wire_frames.specs.declared.frame.Frame.{Frame}
-use Rattle.world_spec.specs.HeldStores.{Ended, HeldStores, empty_stores}
-use Rattle.world_spec.specs.Nodes.{Node, Up, opening_node, taken_of}
+use Rattle.world_spec.specs.HeldStores.{Ended, empty_stores}
+use Rattle.world_spec.specs.Nodes.{Node, opening_node, taken_of}
 use Rattle.world_spec.specs.Runs.{Run, next_event, opening_mode, place_of}
-use Rattle.group_lives.specs.Acts.{Act, Begins, Does, Ends, Execution, Life, acts_of, actor, and_deeds, answers_at, answers_from, frames_by, group_of, later_acts, moment_of, notes_of, noted_by, own_acts, sent_by}
+use Rattle.group_lives.specs.Acts.{Act, Begins, Does, Ends, Execution, Life, acts_of, actor, answers_at, answers_from, frames_by, group_of, moment_of, notes_of, noted_by, own_acts, sent_by}
 use Rattle.group_lives.specs.Joined.{ArePutOut, AreOneGroup, AreOnDisks, IsAmongSent, IsLinearizable, WasPutOut, ProcessesAreOneGroup, ProcessesRefine, ProcessesAreLinearizable}
 use Rattle.group_lives.specs.Lives.{AreLives}
 use Rattle.group_lives.specs.Joined.{fact_on_disk}
@@ -62,13 +62,13 @@ record GoAll (acts : List Act) (w : Run) (number peers : ℕ) : Type 0 where
   answers : answers_in (run_on (map moment_of acts) w).printed ≡ answers_in w.printed ++ answers_from (number + 1) acts
   notes : (run_on (map moment_of acts) w).notes ≡ w.notes ++ notes_of acts
 
-module _ {D : Type 0} (seen : D → Option (List ℕ)) (may_leave : D → List ℕ → Type 0) (moment : D → ℕ) (left_since : D → ℕ → List ℕ → Type 0) (faults : D → ℕ) where
+module _ {D : Type 0} (seen : D → Option (List ℕ)) (faults : D → ℕ) where
   module _ (peers : ℕ) (small : peers ≤ 31) (view : List ℕ) where
     abbrev Before : Run → List Act → Type 0
-    Before = IsBefore seen may_leave moment left_since faults peers small view
+    Before = IsBefore seen faults peers small view
 
     abbrev GoesOn : Act → List Act → Run → Type 0
-    GoesOn = Goes seen may_leave moment left_since faults peers small view
+    GoesOn = Goes seen faults peers small view
 
     -- an act, and those after it
     and_all : (a : Act) (acts : List Act) (w : Run) (number : ℕ) → next_event w.events ≡ number + 1 → IsAmong peers (actor a) → WasPutOut w.mail.sent a → GoesOn a acts w → GoAll acts (after (moment_of a) w) (number + 1) peers → GoAll (a ∷ acts) w number peers
@@ -96,7 +96,7 @@ module _ {D : Type 0} (seen : D → Option (List ℕ)) (may_leave : D → List �
       notes = sym (append-nil w.notes);
     }
     go_all (a ∷ acts) w number sent at few mail among put before =
-        let here = goes seen may_leave moment left_since faults peers small view a acts w (among a (inl refl)) before in
+        let here = goes seen faults peers small view a acts w (among a (inl refl)) before in
         let next = next_is w.events number at (first number (length acts) few) in
         and_all a acts w number next (among a (inl refl)) (subst (λ (fs : List Frame). WasPutOut fs a) (sym mail) put.0) here
         (go_all acts (after (moment_of a) w) (number + 1) (sent ++ frames_by a) next (rest number (length acts) few) (here.sent ∙ ap (λ (fs : List Frame). fs ++ frames_by a) mail) (λ b at. among b (inr at)) put.1 here.on)
@@ -110,7 +110,7 @@ module _ {D : Type 0} (seen : D → Option (List ℕ)) (may_leave : D → List �
     -- ## The opening
 
     abbrev Lives : ℕ → List Life → Type 0
-    Lives p lives = AreLives (disks_do seen may_leave moment left_since faults) (disks_refuse seen may_leave moment left_since faults) (StandsFor seen) fact_on_disk view p lives
+    Lives p lives = AreLives (disks_do seen faults) (disks_refuse seen faults) (StandsFor seen) fact_on_disk view p lives
 
     -- disks on which nothing is found are empty stores
     empty : (s : OnDisks D) (found : Found) → found ≡ nothing_found → StandsFor seen s (stores_found found) → StandsFor seen s empty_stores
@@ -119,7 +119,7 @@ module _ {D : Type 0} (seen : D → Option (List ℕ)) (may_leave : D → List �
         bare : StandsFor seen s (stores_found nothing_found) → StandsFor seen s empty_stores
         bare is = record { objects = is.objects; nodes = is.nodes; fact = is.fact; none = record { facts = refl; tree = refl; backend = refl } }
 
-    first_on : (p : ℕ) (lives : List Life) (own : List Act) (o : Option Node) → Lives p lives → own ≡ acts_of p lives → o ≡ Some (opening_node (opening_mode Three) view) → IsOn seen may_leave moment left_since faults peers small view p o own
+    first_on : (p : ℕ) (lives : List Life) (own : List Act) (o : Option Node) → Lives p lives → own ≡ acts_of p lives → o ≡ Some (opening_node (opening_mode Three) view) → IsOn seen faults peers small view p o own
     first_on p [] own o lived is at = inl is
     first_on p (l ∷ later) own o lived is at = inr (inl (record {
       state = lived.1.first;
@@ -138,10 +138,10 @@ module _ {D : Type 0} (seen : D → Option (List ℕ)) (may_leave : D → List �
     }))
       where
         so : RunsInMemory seen (start_of served_mode view) empty_stores [] [] lived.1.first nothing lived.1.started []
-        so = (run_as_maps seen may_leave moment left_since faults).starts served_mode view lived.1.opened lived.1.started empty_stores [] [] lived.1.first nothing (empty lived.1.opened l.found lived.0 lived.1.finds) lived.1.starts
+        so = (run_as_maps seen faults).starts served_mode view lived.1.opened lived.1.started empty_stores [] [] lived.1.first nothing (empty lived.1.opened l.found lived.0 lived.1.finds) lived.1.starts
 
-  module _ (e : Execution) (joined : AreOnDisks seen may_leave moment left_since faults e) where
-    opens : IsBefore seen may_leave moment left_since faults e.peers joined.few_peers e.view (opening_of (group_of e)) e.acts
+  module _ (e : Execution) (joined : AreOnDisks seen faults e) where
+    opens : IsBefore seen faults e.peers joined.few_peers e.view (opening_of (group_of e)) e.acts
     opens = record {
       opens = refl;
       sealing = refl;
@@ -185,11 +185,11 @@ module _ {D : Type 0} (seen : D → Option (List ℕ)) (may_leave : D → List �
     is_legal heard given key = subst (λ (notes : List Note). IsLegal (calls_of (group_of e)) heard key (order notes key)) is_group.notes
         (group_legal (group_of e) is_group.sound heard (λ a at. subst (λ (xs : List Answer). a ∈ xs) (sym is_group.answers) (given a at)) key)
 
-  pub one_group : ProcessesAreOneGroup seen may_leave moment left_since faults
+  pub one_group : ProcessesAreOneGroup seen faults
   one_group = is_group
 
-  pub refine : ProcessesRefine seen may_leave moment left_since faults
+  pub refine : ProcessesRefine seen faults
   refine = is_run
 
-  pub linearizable : ProcessesAreLinearizable seen may_leave moment left_since faults
+  pub linearizable : ProcessesAreLinearizable seen faults
   linearizable = is_legal

@@ -1,5 +1,5 @@
 -- A lone peer that lives twice over stores in memory meets the premises, and some executions break one.
-use Rattle.std.proofs.Common.{◌≡◌, ◌⊎◌, ◌<◌, ◌≤◌, ◌++◌, ℕ, zero, suc, List, [], ◌∷◌, length, Option, None, Some, Result, Ok, Err, arith, lit<, lit≤, refl, sym, ap, subst, ◌∙◌, inl, inr}
+use Rattle.std.proofs.Common.{◌≡◌, ◌<◌, ◌≤◌, ◌++◌, ℕ, zero, suc, List, [], ◌∷◌, length, Option, None, Result, Ok, Err, arith, lit<, lit≤, refl, sym, ap, subst, ◌∙◌, inl, inr}
 use Rattle.std.specs.Prelude.{slice_index_or}
 use Rattle.std.proofs.lemmas.Option.{none-some}
 use Rattle.ens_base.specs.Lists.{◌∈◌}
@@ -16,18 +16,18 @@ use Rattle.peer_state.specs.declared.state.State.{State}
 use Rattle.register_model.specs.declared.note.Note.{Note}
 use Rattle.schedule_words.proofs.Ascending.{IsPeer-members, IsStrictlyIncreasing-members}
 use Rattle.schedule_words.specs.Spelling.{AscendFrom, IsAmong}
-use Rattle.step_plans.specs.Calls.{Call, AnswerOf}
+use Rattle.step_plans.specs.Calls.{AnswerOf}
 use Rattle.step_plans.specs.Plans.{Plan, Done, Say, Ask, Ending, Finished, Stopped, Out, Runs, nothing}
 use Rattle.step_plans.specs.declared.error.PeerError.{PeerError}
 use Rattle.tree_maps.specs.Sixteen.{form_of}
 use Rattle.turn_spec.specs.Deeds.{Deed, events_in}
 use Rattle.wire_frames.specs.declared.message.Message.{Message}
-use Rattle.world_spec.specs.HeldStores.{Ended, HasNoClash, Held, HeldStores, answered, either, held_with, run}
+use Rattle.world_spec.specs.HeldStores.{Ended, HasNoClash, Held, answered, either, held_with, run}
 use Rattle.world_stores.specs.Facts.{kept_of}
-use Rattle.group_lives.specs.Acts.{Act, Begins, Does, Ends, Life, acts_of, actor, and_deeds, group_of, later_acts, own_acts}
-use Rattle.group_lives.specs.Joined.{AreJoined, AreOnDisks}
+use Rattle.group_lives.specs.Acts.{Act, Begins, Life, acts_of, actor, and_deeds, group_of, later_acts, own_acts}
+use Rattle.group_lives.specs.Joined.{AreOnDisks}
 use Rattle.group_lives.specs.Lives.{AreLives, HasLived, IsTickOrBytes}
-use Rattle.group_lives.specs.Witness.{AreInMemory, a_lost_fact, an_unsent_message, ended_world, fact_in_memory, found_again, memory_does, memory_holds, memory_refuses, opened_world, started_world, tick_in, two_lives, two_processes}
+use Rattle.group_lives.specs.Witness.{AreInMemory, a_lost_fact, an_unsent_message, fact_in_memory, found_again, memory_does, memory_holds, memory_refuses, opened_world, started_world, tick_in, two_lives, two_processes}
 
 -- ## Runs over stores in memory
 
@@ -183,9 +183,9 @@ no_start p (l ∷ later) found rest is = steps l.deeds is
     steps [] is = cc
     steps (d ∷ deeds) is = cc
 
-module _ {D : Type 0} (seen : D → Option (List ℕ)) (may_leave : D → List ℕ → Type 0) (moment : D → ℕ) (left_since : D → ℕ → List ℕ → Type 0) (faults : D → ℕ) where
-  pub unsent_breaks : (lives : ℕ → List Life) (message : Message) → ¬ AreOnDisks seen may_leave moment left_since faults (an_unsent_message lives message)
+module _ {D : Type 0} (seen : D → Option (List ℕ)) (faults : D → ℕ) where
+  pub unsent_breaks : (lives : ℕ → List Life) (message : Message) → ¬ AreOnDisks seen faults (an_unsent_message lives message)
   unsent_breaks lives message joined = joined.messages_were_sent.0
 
-  pub second_breaks : (lives : List Life) (found : Found) → ¬ AreOnDisks seen may_leave moment left_since faults (two_processes lives found)
+  pub second_breaks : (lives : List Life) (found : Found) → ¬ AreOnDisks seen faults (two_processes lives found)
   second_breaks lives found joined = no_start 1 lives found [] (joined.in_order 1 (record { first = lit≤ tt; last = lit≤ tt }))

@@ -1,5 +1,5 @@
 -- Places in lists, and the acts of one peer.
-use Rattle.std.proofs.Common.{◌≡◌, ◌<◌, ℕ, zero, suc, Bool, eqb, eq-eqb, if◌then◌else◌, List, [], ◌∷◌, replicate, Option, Some, slice_get, slice_set, arith, refl, sym, ap, ◌∙◌}
+use Rattle.std.proofs.Common.{◌≡◌, ◌<◌, ℕ, zero, suc, Bool, eq-eqb, if◌then◌else◌, List, [], ◌∷◌, replicate, Some, slice_get, slice_set, arith, refl, ap}
 use Rattle.std.proofs.lemmas.Option.{none-some}
 use Rattle.group_lives.specs.Acts.{Act, actor, own_acts}
 

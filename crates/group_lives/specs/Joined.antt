@@ -3,7 +3,7 @@ use Rattle.std.specs.Prelude.{◌≡◌, ◌<◌, ◌≤◌, ◌^◌, ℕ, List,
 use Rattle.disk_runs.specs.Memory.{StandsFor}
 use Rattle.ens_base.specs.Lists.{◌∈◌, AreDistinct}
 use Rattle.ens_base.specs.View.{IsView}
-use Rattle.fact_store.specs.Files.{file_kept}
+use Rattle.fact_commit.specs.Held.{held_kept}
 use Rattle.life_refinement.specs.Laws.{IsRunOfProtocol}
 use Rattle.peer_lives.specs.Moments.{run_of, calls_of, answers_of}
 use Rattle.peer_lives.specs.Premises.{IsSound}
@@ -20,7 +20,7 @@ use Rattle.step_plans.specs.Calls as plans
 use Rattle.step_plans.specs.declared.error.PeerError.{PeerError}
 use Rattle.wire_frames.specs.declared.frame.Frame.{Frame}
 use Rattle.world_spec.specs.HeldStores.{HasNoClash, HeldStores}
-use Rattle.group_lives.specs.Acts.{Act, Begins, Does, Ends, Execution, acts_of, actor, answers_from, frames_by, group_of, notes_of, own_acts, sent_by}
+use Rattle.group_lives.specs.Acts.{Act, Does, Execution, acts_of, actor, answers_from, frames_by, group_of, notes_of, own_acts, sent_by}
 use Rattle.group_lives.specs.Lives.{AreLives, FactRead}
 
 -- the message is among these frames, from the peer that it names as its sender
@@ -68,19 +68,19 @@ IsLinearizable e = (heard : List Answer) → ((a : Answer) → a ∈ heard → a
 
 -- ## On disks
 
--- the fact that stores on disks keep
+-- the fact that stores on disks keep, in memory until it is committed
 abbrev pub fact_on_disk : {D : Type 0} → OnDisks D → FactRead
-fact_on_disk s = file_kept s.0.facts
+fact_on_disk s = held_kept s.0.facts
 
 -- the processes lived on disks that tell their bytes, and are joined
-abbrev pub AreOnDisks : {D : Type 0} → (D → Option (List ℕ)) → (D → List ℕ → Type 0) → (D → ℕ) → (D → ℕ → List ℕ → Type 0) → (D → ℕ) → Execution → Type 0
-AreOnDisks seen may_leave moment left_since faults e = AreJoined (disks_do seen may_leave moment left_since faults) (disks_refuse seen may_leave moment left_since faults) (StandsFor seen) fact_on_disk e
+abbrev pub AreOnDisks : {D : Type 0} → (D → Option (List ℕ)) → (D → ℕ) → Execution → Type 0
+AreOnDisks seen faults e = AreJoined (disks_do seen faults) (disks_refuse seen faults) (StandsFor seen) fact_on_disk e
 
-abbrev pub ProcessesAreOneGroup : {D : Type 0} → (D → Option (List ℕ)) → (D → List ℕ → Type 0) → (D → ℕ) → (D → ℕ → List ℕ → Type 0) → (D → ℕ) → Type 0
-ProcessesAreOneGroup seen may_leave moment left_since faults = (e : Execution) → AreOnDisks seen may_leave moment left_since faults e → AreOneGroup e
+abbrev pub ProcessesAreOneGroup : {D : Type 0} → (D → Option (List ℕ)) → (D → ℕ) → Type 0
+ProcessesAreOneGroup seen faults = (e : Execution) → AreOnDisks seen faults e → AreOneGroup e
 
-abbrev pub ProcessesRefine : {D : Type 0} → (D → Option (List ℕ)) → (D → List ℕ → Type 0) → (D → ℕ) → (D → ℕ → List ℕ → Type 0) → (D → ℕ) → Type 0
-ProcessesRefine seen may_leave moment left_since faults = (e : Execution) → AreOnDisks seen may_leave moment left_since faults e → IsRunOfProtocol (group_of e)
+abbrev pub ProcessesRefine : {D : Type 0} → (D → Option (List ℕ)) → (D → ℕ) → Type 0
+ProcessesRefine seen faults = (e : Execution) → AreOnDisks seen faults e → IsRunOfProtocol (group_of e)
 
-abbrev pub ProcessesAreLinearizable : {D : Type 0} → (D → Option (List ℕ)) → (D → List ℕ → Type 0) → (D → ℕ) → (D → ℕ → List ℕ → Type 0) → (D → ℕ) → Type 0
-ProcessesAreLinearizable seen may_leave moment left_since faults = (e : Execution) → AreOnDisks seen may_leave moment left_since faults e → IsLinearizable e
+abbrev pub ProcessesAreLinearizable : {D : Type 0} → (D → Option (List ℕ)) → (D → ℕ) → Type 0
+ProcessesAreLinearizable seen faults = (e : Execution) → AreOnDisks seen faults e → IsLinearizable e

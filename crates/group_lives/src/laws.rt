@@ -6,30 +6,31 @@ ghost use Rattle.group_lives.specs.Witness.{AreInMemory, a_lost_fact, an_unsent_
 ghost use Rattle.peer_lives.specs.Moments.{Found};
 ghost use Rattle.wire_frames.specs.declared.message.Message.{Message};
 
-use ens_outside::Link;
+use ens_outside::{Link, Ticker};
 use slot_disk::Disk;
 
 /// Processes that lived on disks that tell their bytes, and are joined, are the processes of a sound
 /// group, which sends, answers and notes what their steps did.
 pub fn processes_are_one_group<D: Disk>()
-    ensures { ProcessesAreOneGroup D.seen D.may_leave D.moment D.left_since D.fault_count }
+    ensures { ProcessesAreOneGroup D.seen D.fault_count }
 {}
 
 /// So they are one run of the abstract protocol.
 pub fn processes_refine_the_protocol<D: Disk>()
-    ensures { ProcessesRefine D.seen D.may_leave D.moment D.left_since D.fault_count }
+    ensures { ProcessesRefine D.seen D.fault_count }
 {}
 
 /// And for every key the order that follows from what their steps noted is a legal history of the
 /// calls that came and of any of the answers that they gave: those that were heard, for one.
 pub fn processes_are_linearizable<D: Disk>()
-    ensures { ProcessesAreLinearizable D.seen D.may_leave D.moment D.left_since D.fault_count }
+    ensures { ProcessesAreLinearizable D.seen D.fault_count }
 {}
 
 /// What `serve` promises of a peer, over disks that tell their bytes, is such a life: of what the disks
-/// held, with the steps that it took.
-pub fn served_lives_may_be_joined<D: Disk, L: Link>()
-    ensures { ServedLivesJoin D.seen D.may_leave D.moment D.left_since D.fault_count L.sent L.given }
+/// held, with the steps of which others know. And the fact that the next process finds, after a crash
+/// at the end or at any moment, is that of such a life.
+pub fn served_lives_may_be_joined<D: Disk, L: Link, T: Ticker>()
+    ensures { ServedLivesJoin D.seen D.may_leave D.moment D.left_since D.fault_count L.sent L.given L.fault_count T.coming }
 {}
 
 /// The premises can be met: a lone peer takes a step and is cut off, and starts again on a disk of
@@ -41,7 +42,7 @@ pub fn a_lone_process_may_live_twice()
 /// A message that comes without having been put out, a process that starts while another one of its
 /// peer runs, and a start without the fact that was saved: each breaks a premise.
 pub fn premises_can_be_broken<D: Disk>()
-    ensures unsent { (lives : ℕ → List Life) (message : Message) → ¬ AreOnDisks D.seen D.may_leave D.moment D.left_since D.fault_count (an_unsent_message lives message) }
-    ensures second { (lives : List Life) (found : Found) → ¬ AreOnDisks D.seen D.may_leave D.moment D.left_since D.fault_count (two_processes lives found) }
+    ensures unsent { (lives : ℕ → List Life) (message : Message) → ¬ AreOnDisks D.seen D.fault_count (an_unsent_message lives message) }
+    ensures second { (lives : List Life) (found : Found) → ¬ AreOnDisks D.seen D.fault_count (two_processes lives found) }
     ensures lost { ¬ AreInMemory a_lost_fact }
 {}

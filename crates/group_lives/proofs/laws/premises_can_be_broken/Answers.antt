@@ -2,10 +2,10 @@ use Rattle.group_lives.proofs.Lone.{lost_breaks, second_breaks, unsent_breaks}
 use Rattle.group_lives.proofs.laws.premises_can_be_broken.Goals as goal
 
 pub returns-clause-unsent : goal.returns-clause-unsent
-returns-clause-unsent g c = unsent_breaks g.D.Disk.seen g.D.Disk.may_leave g.D.Disk.moment g.D.Disk.left_since g.D.Disk.fault_count
+returns-clause-unsent g c = unsent_breaks g.D.Disk.seen g.D.Disk.fault_count
 
 pub returns-clause-second : goal.returns-clause-second
-returns-clause-second g c = second_breaks g.D.Disk.seen g.D.Disk.may_leave g.D.Disk.moment g.D.Disk.left_since g.D.Disk.fault_count
+returns-clause-second g c = second_breaks g.D.Disk.seen g.D.Disk.fault_count
 
 pub returns-clause-lost : goal.returns-clause-lost
 returns-clause-lost g c = lost_breaks
