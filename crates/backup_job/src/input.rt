@@ -1,11 +1,11 @@
-ghost use Rattle.std.specs.Prelude.{◌≡◌, ◌≢◌, ◌≤◌, ◌<◌, [], length, true, false, vec_len, IfOk, IfErr, OnErr, IsErrOf};
+ghost use Rattle.std.specs.Prelude.{◌≡◌, ◌≢◌, ◌≤◌, ◌<◌, ◌+◌, [], length, true, false, vec_len, vec_capacity, IfOk, IfErr, OnOk, OnErr, IsErrOf};
 ghost use Rattle.std.specs.Io.KnownBytes.{prepend_known, Keeps, IsAtEnd};
 ghost use Rattle.ens_base.specs.Causes.{Rose};
 ghost use Rattle.backup_job.specs.Printed.{IsTooLong};
 
 use ens_base::Failed;
 use ens_outside::Source;
-use std::alloc::Global;
+use std::alloc::{AllocError, Global};
 
 /// The most bytes that a backup may have.
 pub(crate) const MOST_BYTES: usize = 268_435_456;
@@ -24,6 +24,21 @@ pub(crate) enum InputError {
     Memory,
 }
 
+/// Makes room for `size` bytes more. The capacity doubles, but not beyond what is read at most.
+fn make_room(bytes: &mut Vec<u8>, size: usize) -> Result<(), AllocError>
+    requires some { vec_len bytes.old ≤ 268435456 }
+    requires fits { vec_len bytes.old + size ≤ 268435457 }
+    ensures kept { bytes.new.items ≡ bytes.old.items }
+    ensures same { vec_len bytes.new ≡ vec_len bytes.old }
+    ensures room { OnOk result (vec_len bytes.new + size ≤ vec_capacity bytes.new) }
+{
+    if bytes.capacity() < MOST_BYTES / 2 {
+        bytes.reserve(size)
+    } else {
+        bytes.reserve_exact(MOST_BYTES + 1 - bytes.len())
+    }
+}
+
 /// Reads one piece behind the bytes. Returns whether there was any.
 fn fill<S: Source>(bytes: &mut Vec<u8>, input: &mut S) -> Result<bool, InputError>
     requires { vec_len bytes.old ≤ 268435456 }
@@ -35,11 +50,11 @@ fn fill<S: Source>(bytes: &mut Vec<u8>, input: &mut S) -> Result<bool, InputErro
     ensures failed { IsErrOf result InputError.Failed → Rose (S.fault_count input.old) (S.fault_count input.new) }
     ensures short { IfErr result (λ e. e ≢ InputError.TooLong) }
 {
-    if bytes.reserve(PIECE).is_err() {
+    let size = (MOST_BYTES + 1 - bytes.len()).min(PIECE);
+    if make_room(bytes, size).is_err() {
         return Err(InputError::Memory);
     }
     let mut piece = [0u8; PIECE];
-    let size = (MOST_BYTES + 1 - bytes.len()).min(PIECE);
     match input.read_some(&mut piece[..size]) {
         Ok(n) => {
             bytes.extend_from_slice(&piece[..n]).unwrap();

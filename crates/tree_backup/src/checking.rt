@@ -14,6 +14,7 @@ ghost use Rattle.tree_backup.specs.declared.item.Item.{Item};
 
 use crate::error::{BackupError, hash_error};
 use crate::hashing::hash_objects;
+use crate::held::Held;
 use crate::item::{Backup, Content, Item};
 use crate::matching::mismatch;
 use crate::reading::decode;
@@ -27,12 +28,12 @@ use tree_repair::build;
 use tree_verify::Gate;
 
 /// Appends an object, if there is one.
-fn push_object(objects: &mut Vec<Object>, object: Option<Object>) -> Result<(), AllocError>
+fn push_object(objects: &mut Vec<Object>, object: Option<Held>) -> Result<(), AllocError>
     ensures { OnOk result (objects.new.items ≡ objects.old.items ++ cons_option object []) }
 {
     match object {
         Some(object) => {
-            objects.push(object)?;
+            objects.push(object.into_object())?;
             Ok(())
         }
         None => Ok(()),
@@ -44,7 +45,7 @@ fn push_object(objects: &mut Vec<Object>, object: Option<Object>) -> Result<(), 
 fn content_of(alloc: Global, items: Seq<Item>) -> Result<Content, AllocError>
     ensures { IfOk result (λ c. c ≡ content_of_items items) }
 {
-    let mut entries = Vec::new(alloc);
+    let mut entries = Vec::with_capacity(alloc, items.as_slice().len())?;
     let mut objects = Vec::new(alloc);
     for item in items.into_vec() {
         let Item { entry, object } = item;

@@ -1,3 +1,4 @@
+use crate::held::Held;
 use ens_base::{Digest, Entry, Seq};
 use ens_object::Object;
 
@@ -5,7 +6,7 @@ use ens_object::Object;
 #[derive(Debug, Drop)]
 pub struct Item {
     pub entry: Entry,
-    pub object: Option<Object>,
+    pub object: Option<Held>,
 }
 
 /// What the bytes of a backup say.

@@ -17,7 +17,7 @@ fn matches(item: &Item, digest: Option<Digest>) -> bool
     match &item.object {
         None => true,
         Some(object) => match digest {
-            Some(digest) => is_named(&item.entry, object, &digest),
+            Some(digest) => is_named(&item.entry, object.get(), &digest),
             None => false,
         },
     }

@@ -6,11 +6,11 @@ ghost use Rattle.tree_backup.specs.Items.{IsBackup, backup_spelling};
 ghost use Rattle.tree_backup.specs.Readings.{ended as unruled, keyed as key_ruled, magic_at, tag_at, tags_at, entry_at, object_behind, held_at, item_at, items_at, backup_at, all_of, backup_of, last_key, Answers};
 
 use crate::error::BackupError;
+use crate::held::Held;
 use crate::item::{Backup, Item};
 use crate::objects::read_object;
 use ens_base::{Entry, Key, Seq};
 use ens_fields::{FieldError, take_digest, take_key, take_u8, take_u16, take_u32, take_version};
-use ens_object::Object;
 use std::alloc::Global;
 use std::cmp::Ordering;
 
@@ -22,6 +22,9 @@ pub(crate) const FORMAT: u8 = 1;
 
 /// The version of the tree whose top record is named.
 pub(crate) const TREE: u8 = 2;
+
+/// The fewest bytes of an item: of its key one byte and the length, then a version, a digest and a flag.
+const FEWEST_BYTES: usize = 39;
 
 /// Turns the answer of a field that has no rule into that of a backup. A broken rule would be reported
 /// as an early end, so the field must break none.
@@ -136,21 +139,17 @@ fn read_entry(
 }
 
 #[tactic(auto, unfolding(crate::specs::Readings::object_behind))]
-fn read_behind(
-    alloc: Global,
-    bytes: &[u8],
-    at: usize,
-) -> Result<(Option<Object>, usize), BackupError>
+fn read_behind(alloc: Global, bytes: &[u8], at: usize) -> Result<(Option<Held>, usize), BackupError>
     requires { at ≤ length bytes.now }
     ensures exact { Answers result (object_behind bytes.now at) }
     ensures within { IfOk result (λ x. x.1 ≤ length bytes.now) }
 {
     let (object, at) = read_object(alloc, bytes, at)?;
-    Ok((Some(object), at))
+    Ok((Some(Held::new(alloc, object)?), at))
 }
 
 #[tactic(auto, unfolding(crate::specs::Readings::held_at))]
-fn read_held(alloc: Global, bytes: &[u8], at: usize) -> Result<(Option<Object>, usize), BackupError>
+fn read_held(alloc: Global, bytes: &[u8], at: usize) -> Result<(Option<Held>, usize), BackupError>
     requires { at ≤ length bytes.now }
     ensures exact { Answers result (held_at bytes.now at) }
     ensures within { IfOk result (λ x. x.1 ≤ length bytes.now) }
@@ -189,8 +188,8 @@ fn key_of_last(items: &[Item]) -> &[u8]
     }
 }
 
-/// Reads `count` items at `at`, whose keys strictly ascend. Memory is taken for no more items than are
-/// read.
+/// Reads `count` items at `at`, whose keys strictly ascend. Memory is taken for no more items than there
+/// are bytes for.
 fn read_items(
     alloc: Global,
     count: u32,
@@ -201,7 +200,8 @@ fn read_items(
     ensures exact { Answers result (items_at count bytes.now at) }
     ensures within { IfOk result (λ x. x.1 ≤ length bytes.now) }
 {
-    let mut items = Vec::new(alloc);
+    let most = (bytes.len() - at) / FEWEST_BYTES;
+    let mut items = Vec::with_capacity(alloc, most.min(count as usize))?;
     let mut place = at;
     for _ in 0..count {
         let (item, after) = read_item(alloc, key_of_last(&items), bytes, place)?;

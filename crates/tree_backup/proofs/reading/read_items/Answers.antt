@@ -7,7 +7,7 @@ use Rattle.tree_backup.proofs.reading.read_items.Goals as goal
 
 pub returns-in_err-item-clause-exact : goal.returns-in_err-item-clause-exact
 returns-in_err-item-clause-exact c =
-    let p = err_from_is_err_and c.from_residual.result c.from_residual.ensures.1 in
+    let p = err_from_is_err_and c.from_residual-in_err-item.result c.from_residual-in_err-item.ensures.1 in
     let key : c.key_of_last.result.now ≡ last_key c.loop.items.items = search rules in
     rw (p.1, p.2) (stops c.in_err-item.field-0.0 item_at (λ (x : Item). x.entry.key) c.args.count c.loop.counter (last_key c.loop.items.items) c.args.bytes.now c.loop.place c.loop.items.items _ (omega arith) (subst (λ (k : List ℕ). Fails c.in_err-item.field-0.0 (item_at k c.args.bytes.now c.loop.place)) key c.in_err-item.ensures.exact) c.loop.invariant.read)
 
