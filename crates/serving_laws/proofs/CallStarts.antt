@@ -35,10 +35,10 @@ use Rattle.leading.specs.declared.leader.Leader.{Leader}
 
 -- ## Rule 27
 
-at_least : (n : ℕ) → 16 ≤ n → nat_le 16 n ≡ true
+pub at_least : (n : ℕ) → 16 ≤ n → nat_le 16 n ≡ true
 at_least n h = grind (arith, nat_tests)
 
-below : (n : ℕ) → n < 16 → nat_le 16 n ≡ false
+pub below : (n : ℕ) → n < 16 → nat_le 16 n ≡ false
 below n h = grind (arith, nat_tests)
 
 is_none : (n : ℕ) → n ≡ 0 → (n == 0) ≡ true

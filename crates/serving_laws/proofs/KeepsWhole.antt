@@ -198,10 +198,11 @@ whole_begins key l n votes reply old task index less clear own read = record {
 
 -- ## What follows
 
--- the table stays whole, and the replies have their notes
+-- the table stays whole, the replies have their notes, and a leader that steps down gives none
 pub record KeptWhole (key : List ℕ) (r : Leader × LeadOut) : Type 0 where
   pub stays : StaysWhole key r
   pub given : AreGiven r.1
+  pub quiet : r.1.leave ≡ true → r.1.answers ≡ []
 
 none_given : (o : LeadOut) → o.answers ≡ [] → AreGiven o
 none_given o silent = subst (λ (answers : List AnswerOut). All (λ a. IsGivenFor o.notes a.reply) answers) (sym silent) (All-nil (λ (a : AnswerOut). IsGivenFor o.notes a.reply))
@@ -214,6 +215,7 @@ so_rests key m o whole none nothing silent = record {
     own = λ some. absurd (false≢true (sym (ap is_some nothing) ∙ some));
   };
   given = none_given o silent;
+  quiet = λ leave. silent;
 }
 
 pub so_goes : (key : List ℕ) (m : Leader) (o : LeadOut) → IsWhole m → IsClear m key → o.keys ≡ key ∷ [] → o.answers ≡ [] → KeptWhole key (m, o)
@@ -224,6 +226,7 @@ so_goes key m o whole clear one silent = record {
     own = λ some. clear;
   };
   given = none_given o silent;
+  quiet = λ leave. silent;
 }
 
 so_asks : (key : List ℕ) (m : Leader) (o : LeadOut) → IsWhole m → IsClear m key → o.keys ≡ [] → o.answers ≡ [] → KeptWhole key (m, o)
@@ -234,11 +237,12 @@ so_asks key m o whole clear none silent = record {
     own = λ some. clear;
   };
   given = none_given o silent;
+  quiet = λ leave. silent;
 }
 
 -- the running call is answered
-pub so_answered : (key : List ℕ) (w : Waiting) (reply : Reply) (o : LeadOut) (l : Leader) → IsWhole l → o.keys ≡ [] → o.answers ≡ [] → IsGivenFor o.notes reply → KeptWhole key (answered w reply key o l)
-so_answered key w reply o l whole none silent given = record {
+pub so_answered : (key : List ℕ) (w : Waiting) (reply : Reply) (o : LeadOut) (l : Leader) → IsWhole l → o.keys ≡ [] → o.answers ≡ [] → o.leave ≡ false → IsGivenFor o.notes reply → KeptWhole key (answered w reply key o l)
+so_answered key w reply o l whole none silent leads given = record {
   stays = record {
     whole = whole_ended key l whole;
     clear = subst (λ (ks : List (List ℕ)). All (IsClear (record l { table = ended key l.table })) (ks ++ key ∷ [])) (sym none)
@@ -247,6 +251,7 @@ so_answered key w reply o l whole none silent given = record {
   };
   given = subst (λ (answers : List AnswerOut). All (λ a. IsGivenFor o.notes a.reply) (answers ++ record { from = w.from; id = w.id; reply = reply } ∷ [])) (sym silent)
       (All-cons (λ (a : AnswerOut). IsGivenFor o.notes a.reply) (record { from = w.from; id = w.id; reply = reply }) [] given (All-nil (λ (a : AnswerOut). IsGivenFor o.notes a.reply)));
+  quiet = λ leave. absurd (false≢true (sym leads ∙ leave));
 }
 
 -- a read is noted, and the running call is answered
@@ -260,8 +265,8 @@ read_given replies.Busy id key base is = absurd is
 read_given replies.Lost id key base is = absurd is
 read_given replies.Timeout id key base is = absurd is
 
-pub so_read : (key : List ℕ) (w : Waiting) (reply : Reply) (o : LeadOut) (l : Leader) → IsWhole l → o.keys ≡ [] → o.answers ≡ [] → o.notes ≡ [] → IsRead reply → KeptWhole key (read_answered w reply key o l)
-so_read key w reply o l whole none silent unnoted is = so_answered key w reply (and_note (Read w.id key (base key l)) o) l whole none silent
+pub so_read : (key : List ℕ) (w : Waiting) (reply : Reply) (o : LeadOut) (l : Leader) → IsWhole l → o.keys ≡ [] → o.answers ≡ [] → o.notes ≡ [] → o.leave ≡ false → IsRead reply → KeptWhole key (read_answered w reply key o l)
+so_read key w reply o l whole none silent unnoted leads is = so_answered key w reply (and_note (Read w.id key (base key l)) o) l whole none silent leads
     (subst (λ (ns : List Note). IsGivenFor (ns ++ Read w.id key (base key l) ∷ []) reply) (sym unnoted) (read_given reply w.id key (base key l) is))
 
 -- a rule on a key that does not check keeps the table whole
@@ -319,7 +324,7 @@ asked_for_so key l None seen whole clear = so_rests key _ _ whole refl refl refl
 asked_for_so key l (Some w) seen whole clear = asked_so key l seen whole clear
 
 without_object_so : (key : List ℕ) (l : Leader) (w : Waiting) (state : RoundState) → KeepsWhole key l (without_object state w key l)
-without_object_so key l w AllAnswered whole clear = so_answered key w _ rests l whole refl refl refl
+without_object_so key l w AllAnswered whole clear = so_answered key w _ rests l whole refl refl refl refl
 without_object_so key l w Open whole clear = so_rests key _ _ whole refl refl refl
 without_object_so key l w Met whole clear = so_rests key _ _ whole refl refl refl
 
@@ -389,16 +394,16 @@ rewritten_so key l (tasks.Propose o parent call) whole clear = so_rests key _ _ 
 one_more : (n : ℕ) → n < n + 1
 one_more n = omega arith
 
-begins_so : (key : List ℕ) (l : Leader) (w : Waiting) (state : RoundState) (reply : Reply) (o : LeadOut) → IsRead reply → o.keys ≡ [] → o.own ≡ None → o.answers ≡ [] → o.notes ≡ [] → IsWhole l → IsClear l key
+begins_so : (key : List ℕ) (l : Leader) (w : Waiting) (state : RoundState) (reply : Reply) (o : LeadOut) → IsRead reply → o.keys ≡ [] → o.own ≡ None → o.answers ≡ [] → o.notes ≡ [] → o.leave ≡ false → IsWhole l → IsClear l key
     → KeptWhole key (begins_check state (begun l.fact.views l.me) reply w key o (record l { round = l.round + 1 }))
-begins_so key l w Open reply o read none nothing silent unnoted whole clear =
+begins_so key l w Open reply o read none nothing silent unnoted leads whole clear =
     so_rests key _ _ (whole_begins key (record l { round = l.round + 1 }) l.round (begun l.fact.views l.me) reply whole.stages whole.task whole.index (one_more l.round) clear (begun_counts l.fact.views l.me) read) none nothing silent
-begins_so key l w Met reply o read none nothing silent unnoted whole clear = so_read key w reply o (record l { round = l.round + 1 }) (whole_round l whole) none silent unnoted read
-begins_so key l w AllAnswered reply o read none nothing silent unnoted whole clear = so_read key w reply o (record l { round = l.round + 1 }) (whole_round l whole) none silent unnoted read
+begins_so key l w Met reply o read none nothing silent unnoted leads whole clear = so_read key w reply o (record l { round = l.round + 1 }) (whole_round l whole) none silent unnoted leads read
+begins_so key l w AllAnswered reply o read none nothing silent unnoted leads whole clear = so_read key w reply o (record l { round = l.round + 1 }) (whole_round l whole) none silent unnoted leads read
 
 checked_so : (key : List ℕ) (l : Leader) (call : Option Waiting) (task : Pending) → IsTask task → KeepsWhole key l (checked_for call task key l)
 checked_so key l (Some w) (tasks.Check reply) read whole clear = either (λ (r : Leader × LeadOut). KeptWhole key r) (is_spent l.round) _ _ (so_rests key _ _ whole refl refl refl)
-    (begins_so key l w (state_of (begun l.fact.views l.me)) reply (tells_all l.me l.fact.views (messages.Check l.fact.epoch (l.round + 1)) rests) read refl refl refl refl whole clear)
+    (begins_so key l w (state_of (begun l.fact.views l.me)) reply (tells_all l.me l.fact.views (messages.Check l.fact.epoch (l.round + 1)) rests) read refl refl refl refl refl whole clear)
 checked_so key l None task read whole clear = so_rests key _ _ whole refl refl refl
 checked_so key l (Some w) tasks.Nothing read whole clear = so_rests key _ _ whole refl refl refl
 checked_so key l (Some w) (tasks.Write content parent) read whole clear = so_rests key _ _ whole refl refl refl
@@ -408,7 +413,7 @@ checked_so key l (Some w) (tasks.Propose o parent call) read whole clear = so_re
 
 concluded_so : (key : List ℕ) (l : Leader) (w : Waiting) (verdict : Verdict) → ReadsOnly verdict → KeepsWhole key l (concluded verdict w key l)
 concluded_so key l w (Write content) reads whole clear = so_goes key _ _ (whole_task (tasks.Write content (base key l)) l tt whole) clear refl refl
-concluded_so key l w (Answer reply) reads whole clear = so_read key w reply rests l whole refl refl refl reads
+concluded_so key l w (Answer reply) reads whole clear = so_read key w reply rests l whole refl refl refl refl reads
 
 applied_so : (key : List ℕ) (l : Leader) (call : Option Waiting) (task : Pending) → KeepsWhole key l (applied_for call task key l)
 applied_so key l (Some w) (tasks.Apply current) whole clear = concluded_so key l w (verdict_of (outcome w.command (register_at current))) (reads_only w.command (register_at current)) whole clear
@@ -421,37 +426,37 @@ applied_so key l (Some w) (tasks.Propose o parent call) whole clear = so_rests k
 
 -- ## Rule 35
 
-write_settled_so : (key : List ℕ) (l : Leader) (call : Option Waiting) (o : Object) (version : Version) (out : LeadOut) → out.keys ≡ [] → out.own ≡ None → out.answers ≡ [] → out.notes ≡ Settled key version ∷ [] → IsWhole l
+write_settled_so : (key : List ℕ) (l : Leader) (call : Option Waiting) (o : Object) (version : Version) (out : LeadOut) → out.keys ≡ [] → out.own ≡ None → out.answers ≡ [] → out.notes ≡ Settled key version ∷ [] → out.leave ≡ false → IsWhole l
     → KeptWhole key (write_settled call o key out l)
-write_settled_so key l None o version out none nothing silent noted whole = so_rests key _ _ whole none nothing silent
-write_settled_so key l (Some w) o version out none nothing silent noted whole = so_answered key w (replies.Ok o.stamp) out l whole none silent (key, version, noted)
+write_settled_so key l None o version out none nothing silent noted leads whole = so_rests key _ _ whole none nothing silent
+write_settled_so key l (Some w) o version out none nothing silent noted leads whole = so_answered key w (replies.Ok o.stamp) out l whole none silent leads (key, version, noted)
 
-settled_so : (key : List ℕ) (l : Leader) (rewrite : Bool) (o : Object) (version : Version) (out : LeadOut) → out.keys ≡ [] → out.own ≡ None → out.answers ≡ [] → out.notes ≡ Settled key version ∷ [] → IsWhole l → IsClear l key
+settled_so : (key : List ℕ) (l : Leader) (rewrite : Bool) (o : Object) (version : Version) (out : LeadOut) → out.keys ≡ [] → out.own ≡ None → out.answers ≡ [] → out.notes ≡ Settled key version ∷ [] → out.leave ≡ false → IsWhole l → IsClear l key
     → KeptWhole key (settled_for rewrite o key out l)
-settled_so key l true o version out none nothing silent noted whole clear =
+settled_so key l true o version out none nothing silent noted leads whole clear =
     so_goes key _ _ (whole_task (tasks.Apply (Some o)) (stands key stages.Idle l) tt (whole_stands key stages.Idle l tt (sym clear) whole)) (clear_stands key stages.Idle l refl)
     (ap (λ (ks : List (List ℕ)). ks ++ key ∷ []) none) silent
-settled_so key l false o version out none nothing silent noted whole clear = write_settled_so key l (running key l.table.calls) o version out none nothing silent noted whole
+settled_so key l false o version out none nothing silent noted leads whole clear = write_settled_so key l (running key l.table.calls) o version out none nothing silent noted leads whole
 
 -- the output with the note that this version is settled
 abbrev settles : List ℕ → Version → LeadOut → LeadOut
 settles key version out = and_note (Settled key version) out
 
-pub acknowledged_so : (key : List ℕ) (l : Leader) (state : RoundState) (o : Object) (digest : List ℕ) (acks : Round) (rewrite : Bool) (out : LeadOut) → CountsVotes l.fact.views acks → out.keys ≡ [] → out.own ≡ None → out.answers ≡ [] → out.notes ≡ [] → IsWhole l → IsClear l key
+pub acknowledged_so : (key : List ℕ) (l : Leader) (state : RoundState) (o : Object) (digest : List ℕ) (acks : Round) (rewrite : Bool) (out : LeadOut) → CountsVotes l.fact.views acks → out.keys ≡ [] → out.own ≡ None → out.answers ≡ [] → out.notes ≡ [] → out.leave ≡ false → IsWhole l → IsClear l key
     → KeptWhole key (acknowledged state o digest acks rewrite key out l)
-acknowledged_so key l Open o digest acks rewrite out own none nothing silent unnoted whole clear = so_rests key _ _ (whole_stands key (stages.Putting o digest acks rewrite) l own (sym clear) whole) none nothing silent
-acknowledged_so key l Met o digest acks rewrite out own none nothing silent unnoted whole clear =
-    settled_so key (knows key (settled_as o.version o digest) l) rewrite o o.version (settles key o.version out) none nothing silent (ap (λ (ns : List Note). ns ++ Settled key o.version ∷ []) unnoted)
+acknowledged_so key l Open o digest acks rewrite out own none nothing silent unnoted leads whole clear = so_rests key _ _ (whole_stands key (stages.Putting o digest acks rewrite) l own (sym clear) whole) none nothing silent
+acknowledged_so key l Met o digest acks rewrite out own none nothing silent unnoted leads whole clear =
+    settled_so key (knows key (settled_as o.version o digest) l) rewrite o o.version (settles key o.version out) none nothing silent (ap (λ (ns : List Note). ns ++ Settled key o.version ∷ []) unnoted) leads
     (whole_knows key (settled_as o.version o digest) l whole) (clear_knows key (settled_as o.version o digest) l clear)
-acknowledged_so key l AllAnswered o digest acks rewrite out own none nothing silent unnoted whole clear =
-    settled_so key (knows key (settled_as o.version o digest) l) rewrite o o.version (settles key o.version out) none nothing silent (ap (λ (ns : List Note). ns ++ Settled key o.version ∷ []) unnoted)
+acknowledged_so key l AllAnswered o digest acks rewrite out own none nothing silent unnoted leads whole clear =
+    settled_so key (knows key (settled_as o.version o digest) l) rewrite o o.version (settles key o.version out) none nothing silent (ap (λ (ns : List Note). ns ++ Settled key o.version ∷ []) unnoted) leads
     (whole_knows key (settled_as o.version o digest) l whole) (clear_knows key (settled_as o.version o digest) l clear)
 
 put_seen_so : (key : List ℕ) (l : Leader) (seen : Seen) (o : Object) (parent : Option Version) (call : Option ℕ) → KeepsWhole key l (put_seen seen o parent call key l)
 put_seen_so key l seens.Nothing o parent call whole clear = so_asks key _ _ (whole_task (tasks.Propose o parent call) l tt whole) clear refl refl
 put_seen_so key l (seens.Damaged at) o parent call whole clear = so_rests key _ _ whole refl refl refl
 put_seen_so key l (seens.Stored digest) o parent call whole clear =
-    acknowledged_so key l (state_of (begun l.fact.views l.me)) o digest (begun l.fact.views l.me) (is_none call) (tells_all l.me l.fact.views (messages.Put l.fact.epoch o) rests) (begun_counts l.fact.views l.me) refl refl refl refl whole clear
+    acknowledged_so key l (state_of (begun l.fact.views l.me)) o digest (begun l.fact.views l.me) (is_none call) (tells_all l.me l.fact.views (messages.Put l.fact.epoch o) rests) (begun_counts l.fact.views l.me) refl refl refl refl refl whole clear
 put_seen_so key l (seens.Held entry object) o parent call whole clear = so_rests key _ _ whole refl refl refl
 put_seen_so key l (seens.Kept kept) o parent call whole clear = so_rests key _ _ whole refl refl refl
 
@@ -495,8 +500,8 @@ got_so from ballot round key entry object l whole = heard_so key l (row_at key l
 goes_on_so : (key : List ℕ) (l : Leader) (w : Waiting) (state : RoundState) (round : ℕ) (votes : Round) (reply : Reply) → check_round (row_at key l.table.rows).stage ≡ Some round → CountsVotes l.fact.views votes × IsRead reply → IsWhole l
     → KeptWhole key (goes_on_checking state round votes reply w key l)
 goes_on_so key l w Open round votes reply e is whole = so_rests key _ _ (whole_stands key (stages.Checking round votes reply) l is (sym e) whole) refl refl refl
-goes_on_so key l w Met round votes reply e is whole = so_read key w reply rests l whole refl refl refl is.1
-goes_on_so key l w AllAnswered round votes reply e is whole = so_read key w reply rests l whole refl refl refl is.1
+goes_on_so key l w Met round votes reply e is whole = so_read key w reply rests l whole refl refl refl refl is.1
+goes_on_so key l w AllAnswered round votes reply e is whole = so_read key w reply rests l whole refl refl refl refl is.1
 
 stood_so : (key : List ℕ) (l : Leader) (call : Option Waiting) (stage : Stage) (from : ℕ) (ballot : Epoch) (round : ℕ) → (row_at key l.table.rows).stage ≡ stage → IsWhole l → KeptWhole key (stood call stage from ballot round key l)
 stood_so key l (Some w) (stages.Checking asked votes reply) from ballot round e whole =
@@ -518,7 +523,7 @@ checked_reply_so from ballot round l whole = by_key (check_at round l.table.chec
 
 put_reply_at : (key : List ℕ) (l : Leader) (stage : Stage) (from : ℕ) (ballot : Epoch) (version : Version) → (row_at key l.table.rows).stage ≡ stage → IsWhole l → KeptWhole key (acknowledged_by stage from ballot version key l)
 put_reply_at key l (stages.Putting o digest acks rewrite) from ballot version e whole = either (λ (r : Leader × LeadOut). KeptWhole key r) (is_same ballot l.fact.epoch && same_version version o.version) _ _
-    (acknowledged_so key l (state_of (heard_from from acks)) o digest (heard_from from acks) rewrite rests (heard_counts l.fact.views acks from (subst (IsStage l.fact.views) e (whole.stages key))) refl refl refl refl whole (ap check_round e))
+    (acknowledged_so key l (state_of (heard_from from acks)) o digest (heard_from from acks) rewrite rests (heard_counts l.fact.views acks from (subst (IsStage l.fact.views) e (whole.stages key))) refl refl refl refl refl whole (ap check_round e))
     (so_rests key _ _ whole refl refl refl)
 put_reply_at key l stages.Idle from ballot version e whole = so_rests key _ _ whole refl refl refl
 put_reply_at key l (stages.Reading asked votes best) from ballot version e whole = so_rests key _ _ whole refl refl refl

@@ -41,7 +41,7 @@ use Rattle.step_bounds.proofs.Walks.{Keeps, CallComes, Comes, left_calls, left_g
 
 -- ## A call at a peer that does not lead
 
-no_tasks : (n me : ℕ) (x : State) (o : Out) (next : Rest State (List Task)) → driven me n [] x o next ≡ next [] x o
+pub no_tasks : (n me : ℕ) (x : State) (o : Out) (next : Rest State (List Task)) → driven me n [] x o next ≡ next [] x o
 unfolding driven
 no_tasks zero me x o next = refl
 no_tasks (suc n) me x o next = refl

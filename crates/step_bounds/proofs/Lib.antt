@@ -8,3 +8,7 @@ pub mod Bounds
 pub mod Walks
 pub mod Taken
 pub mod Answered
+pub mod Served
+pub mod Ticking
+pub mod ServedCalls
+pub mod ServedTicks

@@ -62,10 +62,10 @@ changes_so (phases.Following f) settled = absurd settled
 changes_so (phases.Probing p) settled = absurd settled
 changes_so (phases.Electing e) settled = absurd settled
 
-two_joint : (views : List (List ℕ)) → HasTwoViews views → is_joint views ≡ true
+pub two_joint : (views : List (List ℕ)) → HasTwoViews views → is_joint views ≡ true
 two_joint views two = ap is_joint two.3
 
-one_not_joint : (views : List (List ℕ)) → (HasTwoViews views → ⊥) → is_joint views ≡ false
+pub one_not_joint : (views : List (List ℕ)) → (HasTwoViews views → ⊥) → is_joint views ≡ false
 one_not_joint [] one = refl
 one_not_joint (view ∷ []) one = refl
 one_not_joint (new ∷ (old ∷ rest)) one = absurd (one (new, old, rest, refl))

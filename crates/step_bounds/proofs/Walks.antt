@@ -111,7 +111,7 @@ Needs phase_rules.BeginChange phase = Unit {0}
 Needs phase_rules.EndEpoch phase = Unit {0}
 
 -- the rule that is named may run in this phase
-abbrev NamesFit : Then → Phase → Type 0
+abbrev pub NamesFit : Then → Phase → Type 0
 NamesFit (thens.Rule n) phase = Needs n phase
 NamesFit other phase = Unit {0}
 
@@ -120,7 +120,7 @@ abbrev IsSafe : Then → Type 0
 IsSafe (thens.Rule n) = (phase : Phase) → Needs n phase
 IsSafe other = Unit {0}
 
-safe_fits : (t : Then) (phase : Phase) → IsSafe t → NamesFit t phase
+pub safe_fits : (t : Then) (phase : Phase) → IsSafe t → NamesFit t phase
 safe_fits (thens.Rule n) phase safe = safe phase
 safe_fits (thens.OnKeys n) phase safe = tt
 safe_fits thens.Stay phase safe = tt
@@ -165,7 +165,7 @@ safe_none (thens.SyncOn fact) none = absurd none
 
 -- ## The rows of messages name neither
 
-abbrev SafeRow : PhaseOut → Type 0
+abbrev pub SafeRow : PhaseOut → Type 0
 SafeRow row = IsSafe row.then
 
 safe_11 : (fact : Fact) (from : ℕ) (ballot : Epoch) → SafeRow (row_11 fact from ballot)
@@ -204,7 +204,7 @@ safe_gets from ballot round key (seens.Held entry object) = tt
 safe_gets from ballot round key (seens.Kept object) = tt
 safe_gets from ballot round key (seens.Stored digest) = tt
 
-safe_21 : (fact : Fact) (trusted : Bool) (from : ℕ) (ballot : Epoch) (round : ℕ) (key : List ℕ) (seen : Seen) → SafeRow (row_21 fact trusted from ballot round key seen)
+pub safe_21 : (fact : Fact) (trusted : Bool) (from : ℕ) (ballot : Epoch) (round : ℕ) (key : List ℕ) (seen : Seen) → SafeRow (row_21 fact trusted from ballot round key seen)
 safe_21 fact trusted from ballot round key seen = safe_unless fact trusted from ballot (gets from ballot round key seen) (safe_gets from ballot round key seen)
 
 safe_puts_at : (from : ℕ) (ballot : Epoch) (o : Object) (entry : Option Entry) → SafeRow (puts_at from ballot o entry)
@@ -218,10 +218,10 @@ safe_puts from ballot o (seens.Held entry object) = safe_puts_at from ballot o e
 safe_puts from ballot o (seens.Kept object) = tt
 safe_puts from ballot o (seens.Stored digest) = tt
 
-safe_22 : (fact : Fact) (trusted : Bool) (from : ℕ) (ballot : Epoch) (o : Object) (seen : Seen) → SafeRow (row_22 fact trusted from ballot o seen)
+pub safe_22 : (fact : Fact) (trusted : Bool) (from : ℕ) (ballot : Epoch) (o : Object) (seen : Seen) → SafeRow (row_22 fact trusted from ballot o seen)
 safe_22 fact trusted from ballot o seen = safe_unless fact trusted from ballot (puts from ballot o seen) (safe_puts from ballot o seen)
 
-safe_after_put : (from : ℕ) (ballot : Epoch) (row : PhaseOut) (seen : Seen) → SafeRow row → SafeRow (after_put from ballot row seen)
+pub safe_after_put : (from : ℕ) (ballot : Epoch) (row : PhaseOut) (seen : Seen) → SafeRow row → SafeRow (after_put from ballot row seen)
 safe_after_put from ballot row (seens.Damaged at) safe = tt
 safe_after_put from ballot row seens.Nothing safe = safe
 safe_after_put from ballot row (seens.Held entry object) safe = safe
@@ -232,7 +232,7 @@ safe_read : (trusted : Bool) (from : ℕ) (ballot : Epoch) (q : Question) (body 
 safe_read trusted from ballot q None = tt
 safe_read trusted from ballot q (Some body) = either SafeRow (is_damaged body) _ _ tt tt
 
-safe_23 : (fact : Fact) (trusted : Bool) (from : ℕ) (ballot : Epoch) (q : Question) (body : Option TreeBody) → SafeRow (row_23 fact trusted from ballot q.position q.after body)
+pub safe_23 : (fact : Fact) (trusted : Bool) (from : ℕ) (ballot : Epoch) (q : Question) (body : Option TreeBody) → SafeRow (row_23 fact trusted from ballot q.position q.after body)
 safe_23 fact trusted from ballot q body = either SafeRow (is_below ballot fact.ballot) _ _ tt (either SafeRow (is_same ballot fact.ballot) _ _ (safe_read trusted from ballot q body) tt)
 
 safe_24 : (fact : Fact) (leading finishing : Bool) (view : List ℕ) → SafeRow (row_24 fact leading finishing view).0
@@ -265,7 +265,7 @@ abbrev Same : State → State × PhaseOut → Type 0
 Same x r = unanswered r.0.phase ≡ unanswered x.phase
 
 -- the row keeps the calls, and the rule that it names may run
-abbrev Fits : State → State × PhaseOut → Type 0
+abbrev pub Fits : State → State × PhaseOut → Type 0
 Fits x r = Same x r × NamesFit r.1.then (left r.1.leave r.0).phase
 
 calm_fits : (x : State) (row : PhaseOut) → SafeRow row → Fits x (x, row)
@@ -331,7 +331,7 @@ ended_stays Settled l x me is = ended_fits Settled l x me is
 ended_stays (Wanted change) l x me is = ended_fits (Wanted change) l x me is
 ended_stays (Finishes f) l x me is = ended_fits (Finishes f) l x me is
 
-phase_row_fits : (rule : PhaseRule) (me : ℕ) (x : State) → Needs rule x.phase → Fits x (phase_row rule me x)
+pub phase_row_fits : (rule : PhaseRule) (me : ℕ) (x : State) → Needs rule x.phase → Fits x (phase_row rule me x)
 phase_row_fits phase_rules.BeginProbing me x none = idle_fits x (begun me x) none refl
 phase_row_fits phase_rules.EnoughHeard me x need = by_probing (Fits x) x.phase (λ p is. idle_fits x (lifted probing (row_9 p) x) (ap unanswered is) refl) (calm_fits x (silent thens.Stay) tt)
 phase_row_fits phase_rules.Prepare me x none =
@@ -348,7 +348,7 @@ aged_election_fits : (e : Election) (me : ℕ) (x : State) → x.phase ≡ phase
 aged_election_fits (Preparing base promises sent age) me x is = idle_fits x (aged_election (Preparing base promises sent age) me x) (ap unanswered is) refl
 aged_election_fits (Starting new accepts age) me x is = idle_fits x (aged_election (Starting new accepts age) me x) (ap unanswered is) refl
 
-aged_fits : (phase : Phase) (me : ℕ) (x : State) → x.phase ≡ phase → Fits x (aged phase me x)
+pub aged_fits : (phase : Phase) (me : ℕ) (x : State) → x.phase ≡ phase → Fits x (aged phase me x)
 aged_fits (phases.Following f) me x is = idle_fits x (aged (phases.Following f) me x) (ap unanswered is) refl
 aged_fits (phases.Probing p) me x is = idle_fits x (aged (phases.Probing p) me x) (ap unanswered is) refl
 aged_fits (phases.Electing e) me x is = aged_election_fits e me x is
@@ -357,7 +357,7 @@ aged_fits (phases.Leading l) me x is = calm_fits x (silent thens.Stay) tt
 heard_same : (from : ℕ) (ballot : Epoch) (seq : ℕ) (fact : Fact) (l : Leadership) → (leader_heard l fact from ballot seq).leader.table.calls ≡ l.leader.table.calls
 heard_same from ballot seq fact l = either (λ (m : Leader). m.table.calls ≡ l.leader.table.calls) (is_same ballot fact.ballot && seq == 1) (accepted_by from l.leader) l.leader refl refl
 
-received_fits : (me from : ℕ) (message : Message) (x : State) → Fits x (received me from message x)
+pub received_fits : (me from : ℕ) (message : Message) (x : State) → Fits x (received me from message x)
 received_fits me from messages.Probe x = calm_fits x (row_8_probe x.fact from) tt
 received_fits me from (messages.ProbeReply fact) x = by_probing (Fits x) x.phase (λ p is. idle_fits x (lifted probing (row_8 p me from fact) x) (ap unanswered is) refl) (calm_fits x (silent thens.Stay) tt)
 received_fits me from (messages.Prepare ballot) x = calm_fits x (row_11 x.fact from ballot) (safe_11 x.fact from ballot)
@@ -381,11 +381,16 @@ wanting_same change (phases.Following f) x is = refl
 wanting_same change (phases.Probing p) x is = refl
 wanting_same change (phases.Electing e) x is = refl
 
-asked_fits : (view : List ℕ) (x : State) → Fits x ((asked_change view x).0, (asked_change view x).1.0)
+pub asked_fits : (view : List ℕ) (x : State) → Fits x ((asked_change view x).0, (asked_change view x).1.0)
 asked_fits view x = (
   either (λ (y : State). unanswered y.phase ≡ unanswered x.phase) (row_24 x.fact (leads x.phase) (changes x.phase) view).1 _ _ (wanting_same (Add view) x.phase x refl) refl,
   safe_fits (asked_change view x).1.0.then (left (asked_change view x).1.0.leave (asked_change view x).0).phase (safe_24 x.fact (leads x.phase) (changes x.phase) view),
 )
+
+-- the calls of a leader that steps down in a tick
+pub late_calls : (late : Bool) (a b : Leader × LeadOut) → late ≡ true → (if late then a else b).0.table.calls ≡ a.0.table.calls
+late_calls true a b is = refl
+late_calls false a b is = absurd cc
 
 -- ## What a part of a step keeps
 
@@ -406,6 +411,53 @@ pub record Keeps (on_keys : Bool) (I : List Waiting → List AnswerOut → List 
       → I old.calls answers taken → I (left_calls leave new.calls) (left_given leave new.calls answers ++ more) taken
   pub aged : on_keys ≡ true → (calls : List Waiting) (answers : List AnswerOut) (taken : List Bool) → I calls answers taken → I (map older_call calls) answers taken
   pub due : on_keys ≡ true → (calls : List Waiting) (answers : List AnswerOut) (taken : List Bool) → I calls answers taken → I (not_due calls) (answers ++ map left_answer (filter is_due calls)) taken
+
+-- ## Leading ends
+
+module _ (me : ℕ) (I : List Waiting → List AnswerOut → List Bool → Type 0) (ends : (calls : List Waiting) (answers : List AnswerOut) (taken : List Bool) → I calls answers taken → I [] (answers ++ map left_answer calls) taken) where
+  -- in a phase without calls, after the calls of this phase are answered `timeout`
+  emptied : (phase : Phase) (answers : List AnswerOut) (taken : List Bool) → I (unanswered phase) answers taken → I [] (answers ++ timeouts phase) taken
+  emptied (phases.Leading l) answers taken good = ends l.leader.table.calls answers taken good
+  emptied (phases.Following f) answers taken good = ends [] answers taken good
+  emptied (phases.Probing p) answers taken good = ends [] answers taken good
+  emptied (phases.Electing e) answers taken good = ends [] answers taken good
+
+  emptied_in : (phase after : Phase) (answers : List AnswerOut) (taken : List Bool) → unanswered after ≡ [] → I (unanswered phase) answers taken → I (unanswered after) (answers ++ timeouts phase) taken
+  emptied_in phase after answers taken none good = subst (λ (calls : List Waiting). I calls (answers ++ timeouts phase) taken) (sym none) (emptied phase answers taken good)
+
+  pub left_good : (leave : Bool) (x : State) (out : Out) → I (unanswered x.phase) out.answers out.changes → I (unanswered (left leave x).phase) (left_answers leave x out).answers (left_answers leave x out).changes
+  left_good true x out good = emptied_in x.phase (stopped_leading x.phase) out.answers out.changes (stopped_none x.phase) good
+  left_good false x out good = good
+
+  pub turned_good : (t : Then) (x : State) (out : Out) → I (unanswered x.phase) out.answers out.changes → I (unanswered (turned me t x).phase) (turned_answers t x out).answers (turned_answers t x out).changes
+  turned_good thens.Follow x out good = emptied x.phase out.answers out.changes good
+  turned_good (thens.Lead fact) x out good = emptied x.phase out.answers out.changes good
+  turned_good thens.Untrust x out good = emptied_in x.phase (without_candidacy (stopped_leading x.phase)) out.answers out.changes (untrusted_none x.phase) good
+  turned_good thens.Stay x out good = good
+  turned_good thens.Put x out good = good
+  turned_good thens.Resume x out good = good
+  turned_good (thens.SyncOn fact) x out good = good
+  turned_good (thens.Rule n) x out good = good
+  turned_good (thens.OnKeys n) x out good = good
+
+pub turned_fits : (me : ℕ) (t : Then) (x : State) → NamesFit t x.phase → NamesFit t (turned me t x).phase
+turned_fits me (thens.Rule n) x fits = fits
+turned_fits me (thens.OnKeys n) x fits = tt
+turned_fits me thens.Stay x fits = tt
+turned_fits me thens.Follow x fits = tt
+turned_fits me (thens.Lead fact) x fits = tt
+turned_fits me thens.Untrust x fits = tt
+turned_fits me thens.Put x fits = tt
+turned_fits me thens.Resume x fits = tt
+turned_fits me (thens.SyncOn fact) x fits = tt
+
+-- the calls that are left after a row of a leader, which steps down or not, and the answers that are given
+pub left_row : (I : List Waiting → List AnswerOut → List Bool → Type 0) (leave : Bool) (m : Leadership) (x : State) (out : Out) (more : List AnswerOut) → I (left_calls leave m.leader.table.calls) (left_given leave m.leader.table.calls out.answers ++ more) out.changes
+    → I (unanswered (left leave (leading m x)).phase) ((left_answers leave (leading m x) out).answers ++ more) (left_answers leave (leading m x) out).changes
+left_row I true m x out more good = good
+left_row I false m x out more good = good
+
+-- ## Which rules come next
 
 -- a rule on keys comes next only if `on_keys`
 abbrev pub TurnKeyed : Bool → Then → Type 0
@@ -570,44 +622,6 @@ module _ (me : ℕ) (on_keys : Bool) (I : List Waiting → List AnswerOut → Li
   take_give_passes tree from give own None x out next good go = go [] x out good tt
   take_give_passes tree from give own (Some r) x out next good go = go_on_passes (row_take tree from give own r) x out next good go
 
-  -- ## Leading ends
-
-  -- in a phase without calls, after the calls of this phase are answered `timeout`
-  emptied : (phase : Phase) (answers : List AnswerOut) (taken : List Bool) → I (unanswered phase) answers taken → I [] (answers ++ timeouts phase) taken
-  emptied (phases.Leading l) answers taken good = keeps.left l.leader.table.calls answers taken good
-  emptied (phases.Following f) answers taken good = keeps.left [] answers taken good
-  emptied (phases.Probing p) answers taken good = keeps.left [] answers taken good
-  emptied (phases.Electing e) answers taken good = keeps.left [] answers taken good
-
-  emptied_in : (phase after : Phase) (answers : List AnswerOut) (taken : List Bool) → unanswered after ≡ [] → I (unanswered phase) answers taken → I (unanswered after) (answers ++ timeouts phase) taken
-  emptied_in phase after answers taken none good = subst (λ (calls : List Waiting). I calls (answers ++ timeouts phase) taken) (sym none) (emptied phase answers taken good)
-
-  left_good : (leave : Bool) (x : State) (out : Out) → Good x out → Good (left leave x) (left_answers leave x out)
-  left_good true x out good = emptied_in x.phase (stopped_leading x.phase) out.answers out.changes (stopped_none x.phase) good
-  left_good false x out good = good
-
-  turned_good : (t : Then) (x : State) (out : Out) → Good x out → Good (turned me t x) (turned_answers t x out)
-  turned_good thens.Follow x out good = emptied x.phase out.answers out.changes good
-  turned_good (thens.Lead fact) x out good = emptied x.phase out.answers out.changes good
-  turned_good thens.Untrust x out good = emptied_in x.phase (without_candidacy (stopped_leading x.phase)) out.answers out.changes (untrusted_none x.phase) good
-  turned_good thens.Stay x out good = good
-  turned_good thens.Put x out good = good
-  turned_good thens.Resume x out good = good
-  turned_good (thens.SyncOn fact) x out good = good
-  turned_good (thens.Rule n) x out good = good
-  turned_good (thens.OnKeys n) x out good = good
-
-  turned_fits : (t : Then) (x : State) → NamesFit t x.phase → NamesFit t (turned me t x).phase
-  turned_fits (thens.Rule n) x fits = fits
-  turned_fits (thens.OnKeys n) x fits = tt
-  turned_fits thens.Stay x fits = tt
-  turned_fits thens.Follow x fits = tt
-  turned_fits (thens.Lead fact) x fits = tt
-  turned_fits thens.Untrust x fits = tt
-  turned_fits thens.Put x fits = tt
-  turned_fits thens.Resume x fits = tt
-  turned_fits (thens.SyncOn fact) x fits = tt
-
   -- ## Rows of phases
 
   row_done_passes : (row : PhaseOut) (x : State) (out : Out) (next : Rest State (List Task)) → Good x out → NamesFit row.then (left row.leave x).phase → Goes next → Follows IsStepCall P (row_done me row x out next)
@@ -616,8 +630,8 @@ module _ (me : ℕ) (on_keys : Bool) (I : List Waiting → List AnswerOut → Li
       let sent : Out = and_sends o (posted_to row.to row.message) in
       saved_passes row.save (left row.leave x) o
       (λ u y p. followed_on me row.then (turned me row.then y) (turned_answers row.then y (and_sends p (posted_to row.to row.message))) next)
-      (λ phase. I (unanswered phase) o.answers o.changes × NamesFit row.then phase) (left_good row.leave x out good, fits)
-      (λ y fine. followed_on_passes row.then (turned me row.then y) (turned_answers row.then y sent) next (turned_good row.then y sent fine.0) (turned_fits row.then y fine.1) go)
+      (λ phase. I (unanswered phase) o.answers o.changes × NamesFit row.then phase) (left_good me I keeps.left row.leave x out good, fits)
+      (λ y fine. followed_on_passes row.then (turned me row.then y) (turned_answers row.then y sent) next (turned_good me I keeps.left row.then y sent fine.0) (turned_fits me row.then y fine.1) go)
 
   -- a row that keeps the calls
   fits_passes : (x : State) (r : State × PhaseOut) (out : Out) (next : Rest State (List Task)) → Fits x r → Good x out → Goes next → Follows IsStepCall P (row_done me r.1 r.0 out next)
@@ -628,7 +642,7 @@ module _ (me : ℕ) (on_keys : Bool) (I : List Waiting → List AnswerOut → Li
   followed_up_passes : (own : Option Own) (turn : Then) (keys : List (List ℕ)) (x : State) (out : Out) (next : Rest State (List Task)) → OwnKeyed on_keys own → TurnKeyed on_keys turn → Good x out → Goes next
       → Follows IsStepCall P (followed_up me own turn keys x out next)
   followed_up_passes None turn keys x out next asks comes good go =
-      go (keyed turn keys) (turned me turn x) (turned_answers turn x out) (turned_good turn x out good) (all_ready (keyed turn keys) (turned me turn x).phase (keyed_fit turn keys comes))
+      go (keyed turn keys) (turned me turn x) (turned_answers turn x out) (turned_good me I keeps.left turn x out good) (all_ready (keyed turn keys) (turned me turn x).phase (keyed_fit turn keys comes))
   followed_up_passes (Some own) turn keys x out next asks comes good go =
       owned_asks P own x out (λ seen y o. next (tasks.Again (asked_by own) (own_key own) seen ∷ []) y o) (λ seen seal. go (tasks.Again (asked_by own) (own_key own) seen ∷ []) (record x { seal = seal }) out good (asks, tt))
 
@@ -636,17 +650,12 @@ module _ (me : ℕ) (on_keys : Bool) (I : List Waiting → List AnswerOut → Li
   abbrev After : Leader × LeadOut → Out → Type 0
   After r out = I (left_calls r.1.leave r.0.table.calls) (left_given r.1.leave r.0.table.calls out.answers ++ r.1.answers) out.changes
 
-  left_row : (leave : Bool) (m : Leadership) (x : State) (out : Out) (more : List AnswerOut) → I (left_calls leave m.leader.table.calls) (left_given leave m.leader.table.calls out.answers ++ more) out.changes
-      → I (unanswered (left leave (leading m x)).phase) ((left_answers leave (leading m x) out).answers ++ more) (left_answers leave (leading m x) out).changes
-  left_row true m x out more good = good
-  left_row false m x out more good = good
-
   lead_done_passes : (l : Leadership) (r : Leader × LeadOut) (x : State) (out : Out) (next : Rest State (List Task)) → OwnKeyed on_keys r.1.own → TurnKeyed on_keys r.1.then → After r out → Goes next
       → Follows IsStepCall P (lead_done me r.1 (leading (with_leader r.0 l) x) out next)
   lead_done_passes l r x out next asks comes good go =
       let y : State = leading (with_leader r.0 l) x in
       noted_follows P r.1.notes (followed_up me r.1.own r.1.then r.1.keys (left r.1.leave y) (and_row r.1 y out) next)
-      (followed_up_passes r.1.own r.1.then r.1.keys (left r.1.leave y) (and_row r.1 y out) next asks comes (left_row r.1.leave (with_leader r.0 l) x out r.1.answers good) go)
+      (followed_up_passes r.1.own r.1.then r.1.keys (left r.1.leave y) (and_row r.1 y out) next asks comes (left_row I r.1.leave (with_leader r.0 l) x out r.1.answers good) go)
 
   -- a row on a key
   abbrev OnKey : (Leader → Leader × LeadOut) → Type 0
@@ -706,10 +715,6 @@ module _ (me : ℕ) (on_keys : Bool) (I : List Waiting → List AnswerOut → Li
       task_done_passes t x out (λ more y o. driven me n (more ++ ts) y o next) good ready.0 (λ more y o fine still. driven_passes n (more ++ ts) y o next fine (ready_more more ts y.phase still ready.1) end)
 
   -- ## Ticks
-
-  late_calls : (late : Bool) (a b : Leader × LeadOut) → late ≡ true → (if late then a else b).0.table.calls ≡ a.0.table.calls
-  late_calls true a b is = refl
-  late_calls false a b is = absurd cc
 
   -- what holds if a leader with these calls steps down or not, and gives these answers
   abbrev Left : Out → Bool → List Waiting → List AnswerOut → Type 0

@@ -1,15 +1,20 @@
--- Which calls a step answers.
-use Rattle.std.specs.Prelude.{◌≡◌, ◌⊎◌, ℕ, List}
+-- Which calls a step answers, and how.
+use Rattle.std.specs.Prelude.{◌≡◌, ◌⊎◌, ◌≤◌, ◌<◌, ◌||◌, ℕ, Bool, true, false, map, filter, Some, List, [], ◌∷◌, ◌++◌}
+use Rattle.call_table.specs.Calls.{running, without_running, waiting_on, is_due, not_due, older as older_call}
+use Rattle.call_table.specs.Tables.{late_put}
 use Rattle.call_table.specs.declared.waiting.Waiting.{Waiting}
 use Rattle.ens_base.specs.Lists.{◌∈◌}
 use Rattle.ens_base.specs.declared.reply.Reply.{Reply}
 use Rattle.ens_base.specs.declared.reply.Reply.TheVariants as replies
 use Rattle.leader_words.specs.declared.out.AnswerOut.{AnswerOut}
+use Rattle.leading.specs.Ticks.{aged, is_late}
+use Rattle.peer_state.specs.Leading.{older, end_of}
 use Rattle.peer_state.specs.declared.event.CallIn.{CallIn}
 use Rattle.peer_state.specs.declared.event.Event.{Event}
 use Rattle.peer_state.specs.declared.event.Event.TheVariants as events
 use Rattle.peer_state.specs.declared.state.ChangeState.{ChangeState}
 use Rattle.peer_state.specs.declared.state.ChangeState.TheVariants.{Settled, Wanted, Finishing}
+use Rattle.peer_state.specs.declared.state.Leadership.{Leadership}
 use Rattle.peer_state.specs.declared.state.Phase.{Phase}
 use Rattle.peer_state.specs.declared.state.Phase.TheVariants as phases
 use Rattle.wire_frames.specs.declared.message.Message.{Message}
@@ -38,6 +43,14 @@ LeadsIntoChange (phases.Electing e) = ⊥
 -- the answer to a call that no leader takes
 abbrev pub refusal_of : CallIn → AnswerOut
 refusal_of call = record { from = call.from; id = call.id; reply = replies.Unavailable }
+
+-- the answer to a call on a key that has 16 unanswered ones
+abbrev pub busy_answer_of : CallIn → AnswerOut
+busy_answer_of call = record { from = call.from; id = call.id; reply = replies.Busy }
+
+-- the call as it waits
+abbrev pub waiting_of : CallIn → Waiting
+waiting_of call = record { from = call.from; id = call.id; key = call.key; command = call.command; age = 0 }
 
 -- the answer to a call of a leader that leads no more
 abbrev pub timeout_of : Waiting → AnswerOut
@@ -69,3 +82,48 @@ ServesNoCall (events.Deliver from message) = IsNoReply message
 ServesNoCall events.Tick = ⊥
 ServesNoCall (events.Call call) = ⊥
 ServesNoCall (events.Change view) = Unit {0}
+
+-- ## What becomes of each call of a leader
+
+-- a reply of a rule on a key; the others are for calls that are refused, and for those that are due or left
+-- when a leader stops
+abbrev pub IsOfRule : Reply → Type 0
+IsOfRule (replies.Value stamp bytes) = Unit {0}
+IsOfRule replies.NotFound = Unit {0}
+IsOfRule replies.Failed = Unit {0}
+IsOfRule (replies.Ok stamp) = Unit {0}
+IsOfRule replies.Lost = Unit {0}
+IsOfRule other = ⊥
+
+-- rules on keys give these answers to some of these calls, one after another, each to the running call of
+-- its key, which is then gone; these calls are left
+abbrev pub AreServed : List Waiting → List AnswerOut → List Waiting → Type 0
+AreServed calls [] left = left ≡ calls
+AreServed calls (a ∷ answers) left =
+    (key : List ℕ) × (w : Waiting) × (running key calls ≡ Some w) × (a.from ≡ w.from) × (a.id ≡ w.id) × IsOfRule a.reply
+    × AreServed (without_running key calls) answers left
+
+-- After these first answers of a step some of these calls are served. The others stay unanswered; or the
+-- leader stops, and then each of them is answered `timeout`, in order of arrival, and none is unanswered.
+pub record AreAnswered (first : List AnswerOut) (calls after : List Waiting) (answers : List AnswerOut) : Type 0 where
+  pub served : List AnswerOut
+  pub left : List Waiting
+  pub serves : AreServed calls served left
+  pub ends : ((answers ≡ first ++ served) × (after ≡ left)) ⊎ ((answers ≡ (first ++ served) ++ map timeout_of left) × (after ≡ []))
+
+-- A leader takes a call. If it has begun a change the call is answered `unavailable` first, and otherwise
+-- `busy` if its key has 16 unanswered calls; any other call waits behind all others.
+pub record AnswersCall (call : CallIn) (l : Leadership) (after : List Waiting) (answers : List AnswerOut) : Type 0 where
+  pub begun : HasBegun l.change → AreAnswered (refusal_of call ∷ []) l.leader.table.calls after answers
+  pub busy : ¬ HasBegun l.change → 16 ≤ waiting_on call.key l.leader.table.calls → AreAnswered (busy_answer_of call ∷ []) l.leader.table.calls after answers
+  pub waits : ¬ HasBegun l.change → waiting_on call.key l.leader.table.calls < 16 → AreAnswered [] (l.leader.table.calls ++ waiting_of call ∷ []) after answers
+
+-- in a tick a leader stops if a put has waited for 8 ticks, or the end of its epoch has
+abbrev pub stops_by_age : Leadership → Bool
+stops_by_age l = late_put (aged l.leader.table) || is_late (end_of (older l.change))
+
+-- In a tick a leader that stops by age answers each call `timeout`. Any other answers those first that have
+-- waited for 8 ticks, and these alone.
+pub record AnswersTick (l : Leadership) (after : List Waiting) (answers : List AnswerOut) : Type 0 where
+  pub stops : stops_by_age l ≡ true → (answers ≡ map timeout_of l.leader.table.calls) × (after ≡ [])
+  pub goes_on : stops_by_age l ≡ false → AreAnswered (map timeout_of (filter is_due (map older_call l.leader.table.calls))) (not_due (map older_call l.leader.table.calls)) after answers
