@@ -91,6 +91,17 @@ def small_items():
     return [item.pack(3, number.to_bytes(3, "big"), 1, 1, number, bytes(16), 0) for number in range(room)]
 
 
+def tombstones():
+    """As many entries with objects as fit, with the shortest keys and no values."""
+    found, room = [], (MOST_BACKUP - 24) // 86
+    for number in range(room):
+        name = bytes([3]) + number.to_bytes(3, "big")
+        version = struct.pack(">QIQ", 1, 1, number)
+        held = version + version + name + b"\0"
+        found.append(name + version + hashlib.md5(held).digest() + b"\1" + held)
+    return found
+
+
 def large_items():
     """As many entries with objects of the greatest length as fit."""
     found, size = [], 24
@@ -123,6 +134,7 @@ CASES = {
     "generate-summary": ("generate 7 20000 summary", lambda: ()),
     # The digest of the root is not known here: the check then ends with `backup 8`, and has built the tree.
     "check-small-entries": ("check", lambda: [spell_backup(small_items(), bytes(16))]),
+    "check-tombstones": ("check", lambda: [spell_backup(tombstones(), bytes(16))]),
     "check-large-objects": ("check", lambda: [spell_backup(large_items(), bytes(16))]),
 }
 
