@@ -202,7 +202,8 @@ def log_cases(base, chance, long):
 
 def stages(prepared):
     """The files after each byte of the last write, in the order in which it is written: the nodes and the top record,
-    then the fact in three steps, then the object. With each goes the stage at which a kill leaves them."""
+    then the object, then the fact in three steps; and with parts of the object missing, which is not synced. With each
+    goes the stage at which a kill, or a loss of power, leaves them."""
     before, after = prepared.before, prepared.after
     for size in range(len(before.nodes), len(after.nodes)):
         yield "before the tree is written", before._replace(nodes=after.nodes[:size])
@@ -211,23 +212,25 @@ def stages(prepared):
     serial, record = read_slots(after.facts)
     filled = spell_slot(serial, record, gate=0)
     old = before.facts.ljust(start, b"\0")
-    yield "between tree and fact", written
+    for size in range(len(before.objects), len(after.objects)):
+        yield "between tree and fact", written._replace(objects=after.objects[:size])
+    put = written._replace(objects=after.objects)
+    yield "between tree and fact", put
     for size in range(1, len(filled) + 1):
         facts = old[:start] + filled[:size] + old[start + size :]
-        yield "between tree and fact", written._replace(facts=facts)
-    saved = written._replace(facts=after.facts)
-    for size in range(len(before.objects), len(after.objects)):
-        yield "between fact and object", saved._replace(objects=after.objects[:size])
+        yield "between tree and fact", put._replace(facts=facts)
     yield "after the write", after
+    for size in range(len(before.objects), len(after.objects)):
+        yield "without the object", after._replace(objects=after.objects[:size])
 
 
 def of_stage(prepared, stage):
-    """What each key is answered if a kill came at this stage, in the words of docs/use.md."""
+    """What each key is answered on the files of this stage, in the words of docs/use.md."""
     wanted = {key: f"value {(bytes([65 + number]) * 3).hex()}" for number, key in enumerate(KEYS)}
     wanted[UNTRIED] = "notfound"
     if stage == "between tree and fact":
         return {key: "unavailable" for key in wanted}
-    if stage == "between fact and object":
+    if stage == "without the object":
         wanted[prepared.last] = "lost"
     if stage == "after the write":
         wanted[prepared.last] = f"value {prepared.new.hex()}"
@@ -285,7 +288,7 @@ def full_disk(size, dies):
     """What is wrong with a peer alone that may write no file beyond a size, or None. Its write fails, or ends it.
 
     The file of facts stays below that size, so a put stops in the nodes, before it had an effect, or in the object,
-    whose key is then lost.
+    before its fact was saved: the tree is then damaged.
     """
     with Ensemble() as it:
         it.start(size=size, dies=dies)

@@ -105,8 +105,8 @@ def one_is_damaged(damage, peer):
 
 
 def loses_a_key():
-    """A leader whose write reached nobody is killed before it has written the object. Its tree names an object that no
-    peer has: the key is lost until it is written again, and the other keys are not."""
+    """A leader whose write reached nobody stops, and the object, which is not synced, is missing. Its tree names an object
+    that no peer has: the key is lost until it is written again, and the other keys are not."""
     with open_three() as it:
         wanted = write(it, b"old")
         leader = it.client.peer
