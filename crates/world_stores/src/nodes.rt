@@ -91,7 +91,7 @@ impl HeldNodes {
     pub fn lose(&mut self, digest: &Digest)
         ensures { self.new ≡ record self.old { entries = without digest.now self.old.entries } }
     {
-        self.nodes.shift_remove(digest);
+        self.nodes.swap_remove(digest);
     }
 
     /// Stores `bytes` under `digest`. When out of memory, leaves the store unchanged.
