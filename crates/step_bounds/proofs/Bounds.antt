@@ -6,7 +6,7 @@ use Rattle.phase_rows.specs.declared.rules.PhaseRule.TheVariants as phase_rules
 use Rattle.peer_plan.specs.Drives.{first, task_done, driven, most_turns, concluded, step_of}
 use Rattle.peer_plan.specs.Kept.{IsStepCall}
 use Rattle.peer_plan.specs.Turns.{StepsAlone, HasFewCalls}
-use Rattle.peer_plan.proofs.Fuel.{responded_left, concluded_left}
+use Rattle.peer_plan.proofs.Fuel.{responded_left, concluded_left, owed_none}
 use Rattle.peer_state.specs.declared.event.Event.{Event}
 use Rattle.peer_state.specs.declared.state.Phase.{Phase}
 use Rattle.peer_state.specs.declared.state.Phase.TheVariants as phases
@@ -19,7 +19,7 @@ use Rattle.step_plans.specs.declared.tasks.Task.TheVariants as tasks
 use Rattle.step_bounds.specs.Limits.{or_else, end_or, step_or}
 use Rattle.step_bounds.specs.Reached.{MayEnd, Reached, calls_of, calls_among, unanswered}
 use Rattle.step_bounds.specs.Resting.{IsResting, LeadsWhole}
-use Rattle.step_bounds.proofs.Counts.{count, least}
+use Rattle.step_bounds.proofs.Counts.{count}
 use Rattle.step_bounds.proofs.Pairs.{responded_safe, concluded_safe}
 use Rattle.step_bounds.proofs.Walking.{responded_passes, concluded_passes}
 use Rattle.step_bounds.proofs.Wholes.{step_whole}
@@ -41,7 +41,7 @@ room_for : (a b c : ℕ) → a ≤ b → a + c ≤ c + b
 room_for a b c less = omega (arith, less)
 
 pub reached_few : (me : ℕ) (mode : Mode) (saved : SavedFact) (trusted : Bool) (events : List Event) (x : State) → Reached me mode saved trusted events x → length (unanswered x.phase) ≤ calls_among events
-reached_few me mode saved trusted [] x is = subst (λ (y : State). length (unanswered y.phase) ≤ 0) (sym is) (least 0)
+reached_few me mode saved trusted [] x is = subst (λ (y : State). length (unanswered y.phase) ≤ 0) (sym is) (owed_none 0)
 reached_few me mode saved trusted (event ∷ events) x (y, before, end) =
     let k : ℕ = calls_of event + calls_among events in
     ended (λ z. count z.phase ≤ k) (step_of me event y) x

@@ -53,13 +53,11 @@ use Rattle.view_change.specs.declared.finishing.Finishing.{Finishing}
 use Rattle.wire_frames.specs.declared.message.Message.{Message}
 use Rattle.wire_frames.specs.declared.message.Message.TheVariants as messages
 use Rattle.step_bounds.specs.Reached.{unanswered}
+use Rattle.peer_plan.proofs.Fuel.{owed_none}
 
 -- how many calls are unanswered
 abbrev pub count : Phase → ℕ
 count phase = length (unanswered phase)
-
-pub least : (n : ℕ) → 0 ≤ n
-least n = omega arith
 
 pub trans : (a b c : ℕ) → a ≤ b → b ≤ c → a ≤ c
 trans a b c first second = omega (arith, first, second)
@@ -73,7 +71,7 @@ one_less a b less = omega (arith, less)
 -- ## Phases
 
 stopped_few : (phase : Phase) → count (stopped_leading phase) ≤ count phase
-stopped_few (phases.Leading l) = least (length l.leader.table.calls)
+stopped_few (phases.Leading l) = owed_none (length l.leader.table.calls)
 stopped_few (phases.Following f) = lit≤ tt
 stopped_few (phases.Probing p) = lit≤ tt
 stopped_few (phases.Electing e) = lit≤ tt
@@ -87,15 +85,15 @@ given_up_few (Starting new accepts age) = lit≤ tt
 given_up_few (Preparing base promises sent age) = lit≤ tt
 
 untrusted_few : (phase : Phase) → count (without_candidacy (stopped_leading phase)) ≤ count phase
-untrusted_few (phases.Leading l) = least (length l.leader.table.calls)
+untrusted_few (phases.Leading l) = owed_none (length l.leader.table.calls)
 untrusted_few (phases.Following f) = lit≤ tt
 untrusted_few (phases.Probing p) = lit≤ tt
 untrusted_few (phases.Electing e) = given_up_few e
 
 pub turned_few : (me : ℕ) (t : Then) (x : State) → count (turned me t x).phase ≤ count x.phase
 turned_few me thens.Stay x = le_refl (count x.phase)
-turned_few me thens.Follow x = least (count x.phase)
-turned_few me (thens.Lead fact) x = least (count x.phase)
+turned_few me thens.Follow x = owed_none (count x.phase)
+turned_few me (thens.Lead fact) x = owed_none (count x.phase)
 turned_few me thens.Untrust x = untrusted_few x.phase
 turned_few me thens.Put x = le_refl (count x.phase)
 turned_few me thens.Resume x = le_refl (count x.phase)
@@ -129,7 +127,7 @@ same_few x = le_refl (count x.phase)
 
 stood_few : (election : Option Election) (x : State) → count (stood election x).phase ≤ count x.phase
 stood_few None x = same_few x
-stood_few (Some e) x = least (count x.phase)
+stood_few (Some e) x = owed_none (count x.phase)
 
 finishing_few : (f : Option Finishing) (l : Leadership) → length (finishing f l).leader.table.calls ≤ length l.leader.table.calls
 finishing_few None l = le_refl (length l.leader.table.calls)
@@ -144,23 +142,23 @@ led_less : (l : Leadership) (x : State) → x.phase ≡ phases.Leading l → len
 led_less l x is = rw is (le_refl (length l.leader.table.calls))
 
 pub phase_row_few : (rule : PhaseRule) (me : ℕ) (x : State) → HasNoMore x (phase_row rule me x)
-phase_row_few phase_rules.BeginProbing me x = least (count x.phase)
-phase_row_few phase_rules.EnoughHeard me x = by_probing (HasNoMore x) x.phase (λ p is. least (count x.phase)) (same_few x)
+phase_row_few phase_rules.BeginProbing me x = owed_none (count x.phase)
+phase_row_few phase_rules.EnoughHeard me x = by_probing (HasNoMore x) x.phase (λ p is. owed_none (count x.phase)) (same_few x)
 phase_row_few phase_rules.Prepare me x = by_probing (HasNoMore x) x.phase (λ p is. stood_few (row_10 x.fact me p.best p.count).1 x) (by_leading (HasNoMore x) x.phase (λ l is. stood_few (row_10 x.fact me x.fact x.fact.ballot.count).1 x) (same_few x))
-phase_row_few phase_rules.EnoughPromised me x = by_electing (HasNoMore x) x.phase (λ e is. least (count x.phase)) (same_few x)
-phase_row_few phase_rules.EnoughAccepted me x = by_electing (HasNoMore x) x.phase (λ e is. least (count x.phase)) (same_few x)
+phase_row_few phase_rules.EnoughPromised me x = by_electing (HasNoMore x) x.phase (λ e is. owed_none (count x.phase)) (same_few x)
+phase_row_few phase_rules.EnoughAccepted me x = by_electing (HasNoMore x) x.phase (λ e is. owed_none (count x.phase)) (same_few x)
 phase_row_few phase_rules.BeginChange me x = by_leading (HasNoMore x) x.phase (λ l is. let still = begun_change_few l.change l x.fact me in let leads = led_less l x is in omega (arith, leads, still)) (same_few x)
 phase_row_few phase_rules.EndEpoch me x = by_leading (HasNoMore x) x.phase (λ l is. same_few x) (same_few x)
 
 pub received_few : (me from : ℕ) (message : Message) (x : State) → HasNoMore x (received me from message x)
 received_few me from messages.Probe x = same_few x
-received_few me from (messages.ProbeReply fact) x = by_probing (HasNoMore x) x.phase (λ p is. least (count x.phase)) (same_few x)
+received_few me from (messages.ProbeReply fact) x = by_probing (HasNoMore x) x.phase (λ p is. owed_none (count x.phase)) (same_few x)
 received_few me from (messages.Prepare ballot) x = same_few x
-received_few me from (messages.Promise ballot fact) x = by_electing (HasNoMore x) x.phase (λ e is. least (count x.phase)) (same_few x)
+received_few me from (messages.Promise ballot fact) x = by_electing (HasNoMore x) x.phase (λ e is. owed_none (count x.phase)) (same_few x)
 received_few me from (messages.Nack ballot cause) x = by_electing (HasNoMore x) x.phase (λ e is. same_few x) (by_leading (HasNoMore x) x.phase (λ l is. same_few x) (same_few x))
 received_few me from (messages.NewEpoch fact) x = waiting_few (row_16 x.fact me x.trusted (runs_sync x.sync) from fact).then x
 received_few me from (messages.Accepted ballot seq) x =
-    by_electing (HasNoMore x) x.phase (λ e is. least (count x.phase))
+    by_electing (HasNoMore x) x.phase (λ e is. owed_none (count x.phase))
     (by_leading (HasNoMore x) x.phase (λ l is. either (λ (m : Leader). length m.table.calls ≤ count x.phase) (is_same ballot x.fact.ballot && seq == 1) (accepted_by from l.leader) l.leader (led_less l x is) (led_less l x is)) (same_few x))
 received_few me from (messages.Commit fact) x = same_few x
 received_few me from (messages.Beat ballot) x = same_few x
@@ -168,12 +166,12 @@ received_few me from (messages.Check ballot round) x = same_few x
 received_few me from other x = same_few x
 
 aged_election_few : (e : Election) (me : ℕ) (x : State) → HasNoMore x (aged_election e me x)
-aged_election_few (Preparing base promises sent age) me x = least (count x.phase)
-aged_election_few (Starting new accepts age) me x = least (count x.phase)
+aged_election_few (Preparing base promises sent age) me x = owed_none (count x.phase)
+aged_election_few (Starting new accepts age) me x = owed_none (count x.phase)
 
 pub aged_few : (phase : Phase) (me : ℕ) (x : State) → HasNoMore x (aged phase me x)
-aged_few (phases.Following f) me x = least (count x.phase)
-aged_few (phases.Probing p) me x = least (count x.phase)
+aged_few (phases.Following f) me x = owed_none (count x.phase)
+aged_few (phases.Probing p) me x = owed_none (count x.phase)
 aged_few (phases.Electing e) me x = aged_election_few e me x
 aged_few (phases.Leading l) me x = same_few x
 

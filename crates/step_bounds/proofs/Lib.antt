@@ -5,6 +5,7 @@ pub mod Rested
 pub mod Pairs
 pub mod Wholes
 pub mod Bounds
+pub mod FittingRows
 pub mod Walks
 pub mod Taken
 pub mod Answered

@@ -44,6 +44,7 @@ use Rattle.peer_plan.specs.Owns.{digested, read, kept, fetched, held, looked_at,
 use Rattle.peer_plan.specs.TreeCalls.{has_position}
 use Rattle.peer_plan.specs.Syncs.{saved, and_sends, with_sync, accepted, accepted_own, accepted_in, by_outcome, go_on, resume_sync, followed_on, needs_node, take_give, tree_give, installed, reached, own_node, body_of, shown_node, sealed, sealed_if}
 use Rattle.peer_plan.specs.Turns.{StepsAlone}
+use Rattle.peer_plan.proofs.Fuel.{owed_none}
 use Rattle.peer_state.specs.Leading.{older, end_of, ticks, row_5_calls, wished, begins}
 use Rattle.peer_state.specs.Moves.{left, left_answers, turned, turned_answers, leading, with_leader, and_answers, electing, without_sync, keeps_seal}
 use Rattle.peer_state.specs.Rows.{aged, phase_row, received, asked_change, leads, changes}
@@ -80,7 +81,7 @@ use Rattle.wire_frames.specs.declared.message.Message.{Message}
 use Rattle.wire_frames.specs.declared.message.Message.TheVariants as messages
 use Rattle.step_bounds.specs.Reached.{calls_of}
 use Rattle.step_bounds.specs.Resting.{IsResting}
-use Rattle.step_bounds.proofs.Counts.{count, least, trans, left_few, turned_few, phase_row_few, received_few, aged_few, asked_few, LeavesNoMore, key_few, got_few, checked_few, put_few, joined_few, ticked_few}
+use Rattle.step_bounds.proofs.Counts.{count, trans, left_few, turned_few, phase_row_few, received_few, aged_few, asked_few, LeavesNoMore, key_few, got_few, checked_few, put_few, joined_few, ticked_few}
 use Rattle.step_bounds.proofs.Rested.{left_rests, untrusted_rests, turned_rests, phase_row_rests, received_rests, aged_rests, asked_rests, OwnOn, lead_own, look_own, reply_own}
 use Rattle.step_bounds.proofs.Walking.{plus_none, joined_room, some_room}
 
@@ -359,7 +360,7 @@ module _ (k me : ℕ) (P : State → Out → Type 0) where
   sealed_if_safe false fact x out next mark few rests go = saved_safe (Some fact) x out next mark few rests go
 
   accepted_own_safe : (e : Election) → Passes (accepted_own me e)
-  accepted_own_safe (Starting new accepts age) x out next mark few rests go = go (tasks.Phase phase_rules.EnoughAccepted ∷ []) (electing (Starting new (joined me accepts) age) x) out (least k) (tt, tt)
+  accepted_own_safe (Starting new accepts age) x out next mark few rests go = go (tasks.Phase phase_rules.EnoughAccepted ∷ []) (electing (Starting new (joined me accepts) age) x) out (owed_none k) (tt, tt)
   accepted_own_safe (Preparing base promises sent age) x out next mark few rests go = go [] x out few rests
 
   accepted_in_safe : (fact : Fact) (phase : Phase) → Passes (accepted_in me fact phase)

@@ -5,6 +5,7 @@ use Rattle.std.proofs.lemmas.Bool.{true≢false, false≢true, and_parts, not-tr
 use Rattle.call_table.specs.declared.waiting.Waiting.{Waiting}
 use Rattle.ens_base.specs.Views.{first_view}
 use Rattle.ens_base.proofs.Lists.{bytes_same, bytes_itself}
+use Rattle.ens_base.proofs.Tests.{true_of_not}
 use Rattle.leader_words.specs.declared.out.AnswerOut.{AnswerOut}
 use Rattle.peer_fact.specs.declared.fact.Fact.{Fact}
 use Rattle.peer_plan.specs.Drives.{step_of}
@@ -34,10 +35,6 @@ changes_keep on_keys replies = record {
   aged = λ keys calls answers taken is. is;
   due = λ keys calls answers taken is. is;
 }
-
-off_again : (a : Bool) → (a ≡ true → ⊥) → not a ≡ true
-off_again true off_so = absurd (off_so refl)
-off_again false off_so = refl
 
 settled_of : (change : ChangeState) → has_begun change ≡ false → change ≡ Settled
 settled_of Settled is = refl
@@ -91,7 +88,7 @@ taken_takes view x is =
 
 takes_taken : (view : List ℕ) (x : State) → TakesChange view x → may_change x.fact (leads x.phase) (changes x.phase) view ≡ true
 takes_taken view x takes =
-    rw (leads_so x.phase takes.leads) (rw (changes_so x.phase takes.leads) (rw (one_not_joint x.fact.views takes.one) (off_again (same_view (first_view x.fact.views) view) (λ same. takes.other (bytes_same (first_view x.fact.views) view same)))))
+    rw (leads_so x.phase takes.leads) (rw (changes_so x.phase takes.leads) (rw (one_not_joint x.fact.views takes.one) (true_of_not (same_view (first_view x.fact.views) view) (λ same. takes.other (bytes_same (first_view x.fact.views) view same)))))
 
 pub taken_exactly : (me : ℕ) (view : List ℕ) (x : State) → Follows IsStepCall (λ y out. (taken : Bool) × (out.changes ≡ taken ∷ []) × ((taken ≡ true) ↔ TakesChange view x)) (step_of me (events.Change view) x)
 taken_exactly me view x =

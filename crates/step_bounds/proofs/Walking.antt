@@ -24,6 +24,7 @@ use Rattle.peer_plan.specs.Owns.{looked, found}
 use Rattle.peer_plan.specs.TreeCalls.{has_position}
 use Rattle.peer_plan.specs.Syncs.{saved, and_sends, with_sync, accepted, accepted_own, accepted_in, by_outcome, go_on, resume_sync, followed_on, needs_node, take_give, tree_give, sealed_if}
 use Rattle.peer_plan.proofs.Aging.{asked_asks, looked_asks, found_asks, written_asks, confirmed_asks, if_follows, owned_asks, noted_follows, installed_asks, own_node_asks, shown_node_asks, shown_asks, sealed_asks}
+use Rattle.peer_plan.proofs.Fuel.{owed_none}
 use Rattle.peer_state.specs.Leading.{older, end_of, ticks, row_5_calls, wished, begins}
 use Rattle.peer_state.specs.Moves.{left, left_answers, turned, turned_answers, leading, with_leader, and_answers, electing, without_sync, keeps_seal}
 use Rattle.peer_state.specs.Rows.{aged, phase_row, received, asked_change, leads, changes}
@@ -54,7 +55,7 @@ use Rattle.sync_rule.specs.declared.sync.Outcome.TheVariants.{Pending, Trusted}
 use Rattle.wire_frames.specs.declared.message.Message.{Message}
 use Rattle.wire_frames.specs.declared.message.Message.TheVariants as messages
 use Rattle.step_bounds.specs.Reached.{calls_of}
-use Rattle.step_bounds.proofs.Counts.{count, least, trans, left_few, turned_few, phase_row_few, received_few, aged_few, asked_few, LeavesNoMore, key_few, got_few, checked_few, put_few, joined_few, ticked_few}
+use Rattle.step_bounds.proofs.Counts.{count, trans, left_few, turned_few, phase_row_few, received_few, aged_few, asked_few, LeavesNoMore, key_few, got_few, checked_few, put_few, joined_few, ticked_few}
 
 pub plus_none : (a k : ℕ) → a + 0 ≤ k → a ≤ k
 plus_none a k less = omega (arith, less)
@@ -86,7 +87,7 @@ module _ (k me : ℕ) (P : State → Out → Type 0) where
   -- ## Syncs
 
   accepted_own_passes : (e : Election) → Passes (accepted_own me e)
-  accepted_own_passes (Starting new accepts age) x out next few go = go (tasks.Phase phase_rules.EnoughAccepted ∷ []) (electing (Starting new (joined me accepts) age) x) out (least k)
+  accepted_own_passes (Starting new accepts age) x out next few go = go (tasks.Phase phase_rules.EnoughAccepted ∷ []) (electing (Starting new (joined me accepts) age) x) out (owed_none k)
   accepted_own_passes (Preparing base promises sent age) x out next few go = go [] x out few
 
   accepted_in_passes : (fact : Fact) (phase : Phase) → Passes (accepted_in me fact phase)

@@ -94,7 +94,8 @@ use Rattle.sync_rule.specs.declared.sync.Outcome.{Outcome}
 use Rattle.sync_rule.specs.declared.sync.Outcome.TheVariants.{Pending, Trusted}
 use Rattle.step_bounds.proofs.Phased.{left_keeps, turned_keeps, phase_row_keeps, received_keeps, aged_keeps, asked_keeps}
 use Rattle.step_bounds.proofs.Rested.{OwnOn, lead_own, look_own, reply_own}
-use Rattle.step_bounds.proofs.Walks.{Needs, NamesFit, SafeRow, Fits, safe_fits, safe_21, safe_22, safe_23, safe_after_put, phase_row_fits, received_fits, aged_fits, asked_fits, left_calls, left_given, left_good, turned_good, turned_fits, left_row}
+use Rattle.step_bounds.proofs.FittingRows.{Needs, NamesFit, SafeRow, Fits, safe_fits, safe_21, safe_22, safe_23, safe_after_put, phase_row_fits, received_fits, aged_fits, asked_fits}
+use Rattle.step_bounds.proofs.Walks.{left_calls, left_given, left_good, turned_good, turned_fits, left_row}
 
 -- ## The keys of a tick differ
 

@@ -59,13 +59,14 @@ use Rattle.step_refinement.specs.Scenes.{Scene, state_before, now, Here, AtRest}
 use Rattle.step_refinement.specs.Steps.{asked_in, with_call}
 use Rattle.step_refinement.proofs.LeadersAtWork.{Standing, Stands, standing_of, stands_here, stands_on, steps_stand, move_roles, at_work, own_peer, own_map, rekeyed_leader}
 use Rattle.step_refinement.proofs.LeaderPlans.{There, told_nothing, calm_plan, tame_ends}
-use Rattle.step_refinement.proofs.TreeLookups.{over_here, Confirmed, confirmed_ends}
+use Rattle.step_refinement.proofs.TreeLookups.{over_here, confirmed_ends}
 use Rattle.step_refinement.proofs.Stretches.{role_once, elsewhere_none}
 use Rattle.step_refinement.proofs.SentMessages.{says_here}
 use Rattle.step_refinement.proofs.LaterStates.{acks_stay, sync_stays}
 use Rattle.step_refinement.proofs.LeaderOutcomes.{calm_27, tame_got, tame_stands, tame_put}
 use Rattle.step_refinement.proofs.LeaderTasks.{TasksFit}
 use Rattle.step_refinement.proofs.ShownMaps.{tree_stays}
+use Rattle.step_refinement.proofs.SaidVersions.{Confirmed}
 use Rattle.step_refinement.specs.Peers.{AsksFit, IsAtRest, SendFits}
 use Rattle.step_refinement.specs.Roles.{role_in}
 

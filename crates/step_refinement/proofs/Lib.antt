@@ -11,6 +11,7 @@ pub mod LeadersAtWork
 pub mod LeaderOutcomes
 pub mod LeaderTasks
 pub mod LeaderPlans
+pub mod SaidVersions
 pub mod TreeLookups
 pub mod ObjectGrammar
 pub mod KeyTasks

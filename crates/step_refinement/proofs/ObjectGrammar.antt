@@ -1,18 +1,18 @@
 -- The objects of versions obey the grammar, in a run whose calls keep their limits and whose epochs have a count
 -- of 64 bits.
 use Rattle.std.specs.Prelude.{nat_lt, nat_le}
-use Rattle.std.proofs.Common.{◌*◌, ◌≡◌, ◌⊎◌, inl, inr, ◌<◌, ◌≤◌, ◌^◌, ◌/◌, ◌%◌, ◌+◌, ℕ, zero, suc, ◌==◌, ◌&&◌, Bool, true, false, eqb-true, List, [], ◌∷◌, ◌++◌, length, Option, Some, None, lit<, lit≤, arith, refl, sym, ap, subst, ◌∙◌}
+use Rattle.std.proofs.Common.{◌*◌, ◌≡◌, ◌⊎◌, inl, inr, ◌<◌, ◌≤◌, ◌^◌, ◌+◌, ℕ, ◌==◌, ◌&&◌, Bool, true, false, eqb-true, List, [], ◌∷◌, length, Option, Some, None, lit≤, arith, refl, sym, ap, subst, ◌∙◌}
 use Rattle.std.proofs.lemmas.Bool.{false≢true, true≢false}
 use Rattle.std.proofs.lemmas.Bool.Decides.{nat_tests}
 use Rattle.std.proofs.lemmas.List.{length-append}
-use Rattle.std.specs.Int.{byte_at, bytes_high_first}
 use Rattle.byteorder.specs.Endian.{big_number}
 use Rattle.ens_base.specs.Epochs.{same_version}
-use Rattle.ens_base.specs.Limits.{IsBytes, IsKey, IsValue, IsVersion, IsCommand}
+use Rattle.ens_base.specs.Limits.{IsKey, IsValue, IsVersion, IsCommand}
 use Rattle.ens_base.specs.Lists.{same_bytes}
 use Rattle.ens_base.specs.declared.command.Command.{Command}
 use Rattle.ens_base.specs.declared.command.Command.TheVariants.{Get, PutOnce, Update, Append, Add, Swap, Over, Delete}
 use Rattle.ens_base.specs.declared.epoch.Version.{Version}
+use Rattle.ens_base.proofs.ByteLists.{bytes_both, number_bytes}
 use Rattle.ens_object.specs.Objects.{IsObject, IsContent}
 use Rattle.register_model.specs.Registers.{Outcome, Keeps, Writes, outcome, written}
 use Rattle.register_model.specs.declared.call.Call.{Call}
@@ -43,23 +43,6 @@ use Rattle.step_refinement.specs.Scenes.{Scene, Reached, state_before, now, Here
 use Rattle.step_refinement.specs.Peers.{AsksFit, EpochsFit}
 
 -- ## Contents
-
-bytes_both : (xs ys : List ℕ) → IsBytes xs → IsBytes ys → IsBytes (xs ++ ys)
-bytes_both [] ys a b i = b i
-bytes_both (x ∷ xs) ys a b zero = a 0
-bytes_both (x ∷ xs) ys a b (suc i) = bytes_both xs ys (λ j. a (suc j)) b i
-
-is_byte : (m : ℕ) → m % 256 < 256
-is_byte m = omega arith
-
-byte_small : (k n : ℕ) → byte_at k n < 256
-byte_small zero n = is_byte n
-byte_small (suc k) n = is_byte (n / 256 ^ suc k)
-
-number_bytes : (k n : ℕ) → IsBytes (bytes_high_first k n)
-number_bytes zero n i = lit< tt
-number_bytes (suc k) n zero = byte_small k n
-number_bytes (suc k) n (suc i) = number_bytes k n i
 
 -- the value of a register keeps its limits
 abbrev RegisterFits : Register → Type 0

@@ -25,14 +25,14 @@ use Rattle.leader_refinement.specs.Seen.{owed_after}
 use Rattle.leader_words.specs.declared.out.Outgoing.{Outgoing}
 use Rattle.peer_plan.specs.Drives.{row_done}
 use Rattle.peer_state.specs.Moves.{ends_leading, left, left_answers, turned, turned_answers, without_sync}
-use Rattle.peer_plan.specs.Syncs.{saved, and_sends, start_sync, by_outcome, followed_on}
+use Rattle.peer_plan.specs.Syncs.{saved, and_sends, start_sync, followed_on}
+use Rattle.peer_plan.proofs.Syncs.{by_outcomeout}
 use Rattle.peer_state.specs.declared.state.Mode.{Mode}
 use Rattle.peer_state.specs.declared.state.Phase.{Phase}
 use Rattle.peer_state.specs.declared.state.State.{State as PeerState}
 use Rattle.peer_fact.specs.declared.fact.Fact.{Fact}
 use Rattle.register_model.specs.declared.note.Note.{Note}
 use Rattle.running_sync.specs.Rows.{row_start}
-use Rattle.running_sync.specs.Running.{Running}
 use Rattle.step_plans.specs.Calls.{ScanTree, Save}
 use Rattle.step_plans.specs.Plans.{Plan, Ask, Out, Rest, asked}
 use Rattle.step_plans.specs.Sends.{posted_to}
@@ -41,8 +41,6 @@ use Rattle.step_plans.specs.declared.error.PeerError.TheVariants.{StoreFault}
 use Rattle.step_plans.specs.declared.tasks.Task.{Task}
 use Rattle.step_plans.specs.Saved.{with_seal, bare}
 use Rattle.sync_rule.specs.Syncs.{outcome_of}
-use Rattle.sync_rule.specs.declared.sync.Outcome.{Outcome}
-use Rattle.sync_rule.specs.declared.sync.Outcome.TheVariants.{Pending, Trusted}
 use Rattle.tree_node.specs.declared.body.Scan.{Scan}
 use Rattle.tree_refinement.proofs.Keeping.{grows}
 use Rattle.tree_refinement.proofs.Tops as records
@@ -170,14 +168,9 @@ way_phase : (then : Then) (x : PeerState) → x.phase ≡ (made_way then x).phas
 way_phase (thens.SyncOn fact) x = refl
 way_phase other x = refl
 
--- a new sync begins alike, whether or not another one has made way
-way_ended : (p : ℕ) (r : Running) (outcome : Outcome) (x : PeerState) (out : Out) (next : Rest PeerState (List Task)) → by_outcome p r outcome (without_sync x) out next ≡ by_outcome p r outcome x out next
-way_ended p r Pending x out next = refl
-way_ended p r (Trusted entries) x out next = refl
-
 way_begun : (p : ℕ) (fact : Fact) (x : PeerState) (out : Out) (next : Rest PeerState (List Task)) → start_sync p fact (without_sync x) out next ≡ start_sync p fact x out next
 unfolding asked
-way_begun p fact x out next = λ i. Ask ScanTree (λ (scan : Scan). way_ended p (row_start fact p x.trusted scan).0 (outcome_of (row_start fact p x.trusted scan).0.sync) x (and_sends out (row_start fact p x.trusted scan).1) next i)
+way_begun p fact x out next = λ i. Ask ScanTree (λ (scan : Scan). by_outcomeout p (row_start fact p x.trusted scan).0 (outcome_of (row_start fact p x.trusted scan).0.sync) x (and_sends out (row_start fact p x.trusted scan).1) next i)
 
 -- ## Rows
 

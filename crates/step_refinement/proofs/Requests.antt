@@ -22,7 +22,6 @@ use Rattle.tree_refinement.specs.HeldStores.{Held}
 use Rattle.leader_laws.specs.Messages.{GetSays, CheckSays, PutSays}
 use Rattle.leader_laws.specs.Roles.{Said, SaidHolds, Reads, Entry as EntryShown, Checks, Stands, Puts, Acks}
 use Rattle.leader_laws.specs.Tables.{Ghosts}
-use Rattle.leader_refinement.proofs.Numbers.{same_epochs}
 use Rattle.leader_refinement.specs.Seen.{rank, content_of, entry_rank, shown as shown_object}
 use Rattle.leader_words.specs.declared.out.AnswerOut.{AnswerOut}
 use Rattle.leader_words.specs.declared.out.Outgoing.{Outgoing}
@@ -53,6 +52,7 @@ use Rattle.phase_rows.specs.declared.phase.Seen.{Seen}
 use Rattle.phase_rows.specs.declared.phase.Seen.TheVariants as seens
 use Rattle.phase_rows.specs.declared.phase.Then.{Then}
 use Rattle.phase_rows.specs.declared.phase.Then.TheVariants as thens
+use Rattle.phase_rows.proofs.Epochs.{same_epochs}
 use Rattle.step_refinement.proofs.CallByCall.{rest_task, Ends}
 use Rattle.step_refinement.specs.Scenes.{Scene, now, Here, AtRest, MessageComes}
 use Rattle.step_refinement.proofs.TreeLookups.{IsReady, Over, Stored, MayStore, shown_map, nothing_read, over_here, write_here, acknowledge_here, looked_ends, found_ends, written_ends}

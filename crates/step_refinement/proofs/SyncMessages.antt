@@ -6,7 +6,6 @@ use Rattle.abstract_protocol.specs.Numbers.{epoch_number}
 use Rattle.abstract_protocol.specs.Protocol.{State, state_after}
 use Rattle.election_refinement.proofs.Calls.{BeginsNothing}
 use Rattle.election_refinement.proofs.Listed.{GoesListed, listed_left, listed_untrusted}
-use Rattle.election_refinement.proofs.Numbers.{same_epochs}
 use Rattle.election_refinement.proofs.Requests.{IsHarmless, harmless_goes, row_23_harmless}
 use Rattle.election_refinement.proofs.Rows.{saved_in, made_way}
 use Rattle.election_refinement.proofs.Tests.{by_test}
@@ -55,6 +54,7 @@ use Rattle.wire_frames.specs.declared.message.Message.{Message}
 use Rattle.phase_rows.specs.declared.phase.PhaseOut.{PhaseOut}
 use Rattle.phase_rows.specs.declared.phase.Then.{Then}
 use Rattle.phase_rows.specs.declared.phase.Then.TheVariants as thens
+use Rattle.phase_rows.proofs.Epochs.{same_epochs}
 use Rattle.world_stores.specs.declared.fact.HeldFact.{HeldFact}
 use Rattle.step_refinement.proofs.CallByCall.{Ends, Answers, Onward, ask_ends}
 use Rattle.step_refinement.specs.Scenes.{Scene, now, AtRest}
