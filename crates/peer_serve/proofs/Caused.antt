@@ -3,6 +3,7 @@ use Rattle.std.specs.Prelude.{Option, None, Some}
 use Rattle.std.proofs.Common.{◌≡◌, ◌⊎◌, ◌≤◌, ◌∙◌, ◌++◌, ◌∷◌, [], ap, sym, ℕ, List, Result, Ok, Err, inl, inr, arith}
 use Rattle.ens_base.specs.Causes.{Rose}
 use Rattle.ens_base.specs.declared.status.Status.TheVariants as statuses
+use Rattle.ens_base.proofs.Causes.{rose_later, same_count}
 use Rattle.disk_stores.specs.declared.backend.DiskBackend.{DiskBackend}
 use Rattle.disk_stores.specs.declared.nodes.DiskNodes.{DiskNodes}
 use Rattle.fact_commit.specs.Held.{held_kept}
@@ -40,12 +41,6 @@ no_bad kept fact why good bad = cc
 same_honest : {D : Type 0} (X : FactError → Type 0) (s t : OnDisks D) → held_kept t.0.facts ≡ held_kept s.0.facts → IsHonest X s → IsHonest X t
 same_honest X s t same honest why is = honest why (sym same ∙ is)
 
-same_count : {A : Type 0} (count : A → ℕ) (a b : A) → b ≡ a → count a ≤ count b
-same_count count a b e = omega (arith, ap count e)
-
-rose_later : (a b c : ℕ) → a ≤ b → Rose b c → Rose a c
-rose_later a b c before rose = omega (arith, before, rose)
-
 pub later_on : {D : Type 0} (faults : D → ℕ) (X : FactError → Type 0) (s t u : OnDisks D) → Later faults X s t → Later faults X t u → Later faults X s u
 later_on faults X s t u first second = record {
   objects = omega (arith, first.objects, second.objects);
@@ -67,7 +62,7 @@ stop e = Stopped e
 stopped_by : (e error : PeerError) → stop e ≡ stop error → e ≡ error
 stopped_by e error same = grind (arith, same)
 
--- want of memory is no fault of the stores
+-- out of memory is no fault of the stores
 no_memory : (e : PeerError) → stop e ≡ stop errors.Memory → peer_status e ≡ statuses.StoreFault → ⊥
 no_memory e same is =
     let memory : statuses.Memory ≡ statuses.StoreFault = sym (ap peer_status (stopped_by e errors.Memory same)) ∙ is in

@@ -17,10 +17,6 @@ pub if_ok : {T E : Type 0} (r : Result T E) {P Q : T → Type 0} → IfOk r P �
 if_ok (Ok x) holds less = less x holds
 if_ok (Err e) holds less = tt
 
-pub if_err : {T E : Type 0} (r : Result T E) {P Q : E → Type 0} → IfErr r P → ((e : E) → P e → Q e) → IfErr r Q
-if_err (Ok x) holds less = tt
-if_err (Err e) holds less = less e holds
-
 pub if_err_both : {T E : Type 0} (r : Result T E) {P Q R : E → Type 0} → IfErr r P → IfErr r Q → ((e : E) → P e → Q e → R e) → IfErr r R
 if_err_both (Ok x) first second less = tt
 if_err_both (Err e) first second less = less e first second

@@ -8,7 +8,6 @@ pub mod Ticking
 pub mod Making
 pub mod Underway
 pub mod Unsent
-pub mod Refusing
 pub mod Stepping
 pub mod Reading
 pub mod Opening

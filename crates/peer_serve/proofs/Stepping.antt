@@ -1,8 +1,6 @@
 -- A step that was taken with an empty outbox, and what it put out, which waits.
-use Rattle.std.specs.Prelude.{IfErr, IsErrAnd, IsErrOf, Option, Some}
-use Rattle.std.proofs.Common.{◌≡◌, ◌∙◌, ◌↔◌, ap, sym, subst, refl, ℕ, Bool, true, false, List, [], ◌∷◌, Result, Ok, Err, inl, inr, arith}
-use Rattle.ens_outside.specs.declared.errors.LinkError.{LinkError}
-use Rattle.ens_outside.specs.declared.errors.LinkError.TheVariants as links
+use Rattle.std.specs.Prelude.{IsErrOf, Option, Some}
+use Rattle.std.proofs.Common.{◌≡◌, ◌∙◌, ◌↔◌, ap, sym, subst, refl, ℕ, Bool, true, false, List, [], ◌∷◌, Result, Ok, inl, inr, arith}
 use Rattle.peer_plan.specs.Drives.{step_of}
 use Rattle.peer_plan.specs.Kept.{AllMayGo, MaySend}
 use Rattle.peer_state.specs.declared.event.Event.{Event}
@@ -27,7 +25,7 @@ use Rattle.turn_spec.proofs.Following.{grew_none}
 use Rattle.peer_serve.proofs.Joining.{took_none, took_one}
 use Rattle.peer_serve.proofs.Lining.{as_many_wait, more_wait, waiting_more}
 use Rattle.peer_serve.specs.DiskPeers.{disks_do, disks_refuse}
-use Rattle.peer_serve.specs.Faults.{link_status, peer_status, status_of}
+use Rattle.peer_serve.specs.Faults.{peer_status, status_of}
 use Rattle.peer_serve.specs.Lines.{frames_waiting, looked, posted}
 use Rattle.peer_serve.specs.Turning.{Fell, RanInto, StepBroke, Stepped, SteppedIf, TickCame, TickMade, Took, line, point}
 use Rattle.peer_serve.specs.declared.server.Server.{Server}
@@ -40,14 +38,6 @@ not_halted halted up r is failed = let none : ⊥ = grind (arith, up, is.0 faile
 
 pub no_error : {T E : Type 0} (x : T) (e : E) → IsErrOf {T = T} {E = E} (Ok x) e → ⊥
 no_error x e bad = let none : ⊥ = cc in none
-
--- `?` returns the error that it met
-pub error_is : {T : Type 0} (e : ServeError) (r : Result T ServeError) (G : ServeError → Type 0) → IsErrAnd r G → ((d : ServeError) → G d → d ≡ e) → r ≡ Err e
-error_is e (Ok x) G and same = absurd and
-error_is e (Err d) G and same = ap Err (same d and)
-
-pub if_error : {T : Type 0} (e : ServeError) (r : Result T ServeError) (Q : ServeError → Type 0) → r ≡ Err e → Q e → IfErr r Q
-if_error {T} e r Q is here = subst (λ (s : Result T ServeError). IfErr s Q) (sym is) here
 
 -- nothing in an empty outbox may not go
 pub all_may_go : (me : ℕ) (o : Outbox) → HasNotesAlone o → AllMayGo me (out_of o)
@@ -118,8 +108,3 @@ tick_made {D} {L} {T} seen faults sent given coming w a b link s t came = record
     by false same =
         subst (λ (k : Server D). Took (disks_do seen faults) (disks_refuse seen faults) (posted sent w.me) (looked given) w.me [] [] (point a link) (point k link)) (sym same)
         (took_none (disks_do seen faults) (disks_refuse seen faults) (posted sent w.me) (looked given) w.me (point a link))
-
--- the error of a link that was translated to that of a link
-pub link_failed : (e : LinkError) (s : ServeError) → status_of s ≡ link_status e → s ≡ serves.Link → e ≡ links.Failed
-link_failed links.Failed s same is = refl
-link_failed links.Memory s same is = absurd (cc (ap status_of is))

@@ -1,7 +1,6 @@
 -- A peer between two of its turns.
-use Rattle.std.specs.Prelude.{All, Option, None, Some}
+use Rattle.std.specs.Prelude.{Option, None, Some}
 use Rattle.std.proofs.Common.{◌≡◌, ◌∙◌, ◌+◌, ◌*◌, ◌≤◌, ◌<◌, ap, sym, subst, refl, ℕ, suc, Bool, true, false, List, [], ◌∷◌, ◌++◌, Ok, inl, inr, length, length-append, append-nil, arith}
-use Rattle.std.proofs.lemmas.List.Elements.{All-nil}
 use Rattle.ens_base.specs.declared.peer_words.PeerWords.{PeerWords}
 use Rattle.ens_base.specs.declared.status.Status.{Status}
 use Rattle.ens_base.specs.declared.status.Status.TheVariants as statuses
@@ -24,11 +23,11 @@ use Rattle.step_plans.specs.declared.outbox.Outbox.{Outbox}
 use Rattle.peer_serve.proofs.Lasting.{committed_kept, lasts_committed, lasts_more, lasts_none}
 use Rattle.peer_serve.proofs.Lining.{all_sent, as_many_wait, front_on, given_all, lost_of, shrank, some_lost}
 use Rattle.peer_serve.proofs.Making.{commit_broke, turns_broke, turns_committed, turns_more, turns_none}
-use Rattle.peer_serve.specs.Commits.{CommitBroke, CommitMade, IsSendable, SentFront, TurnEnded, WasNotSaved, WasNotSent}
+use Rattle.peer_serve.specs.Commits.{CommitBroke, CommitMade, SentFront, TurnEnded, WasNotSaved, WasNotSent}
 use Rattle.peer_serve.specs.DiskPeers.{OnDisks, disks_do, disks_refuse}
 use Rattle.peer_serve.specs.Lines.{frames_waiting, grown, looked, posted}
 use Rattle.peer_serve.specs.Rounds.{AllMade, BrokeAt, Durable, FileEnds, SentUntil}
-use Rattle.peer_serve.specs.Turning.{CanStep, Committing, IsInTurn, IsReady, Looked, Looking, Place, Shrank, Ticked, TurnBroke, TurnMade, TurnsMade, WasLost, events_before, line, point}
+use Rattle.peer_serve.specs.Turning.{Committing, IsInTurn, Looked, Looking, Place, Shrank, Ticked, TurnBroke, TurnMade, TurnsMade, WasLost, events_before, line, point}
 use Rattle.peer_serve.specs.declared.server.Server.{Server}
 use Rattle.peer_serve.specs.declared.turns.Counts.{Counts}
 
@@ -254,13 +253,6 @@ module _ {D L T : Type 0} (seen : D → Option (List ℕ)) (may_leave : D → Li
   ended link_faults a b c l m n s t turns waiting left under (inr same) =
       subst (λ (k : ℕ). Underway a c l n s t turns k) (sym same.2)
       (subst (λ (k : L). Underway a c l k s t turns waiting) (sym same.1) (subst (λ (k : Server D). Underway a k l m s t turns waiting) (sym same.0) under))
-
-  -- a peer is ready after a commit
-  pub ready_on : (b c : Server D) → c.peer ≡ b.peer → c.unsent.items ≡ [] → IsReady w b → IsReady w c
-  ready_on b c same none ready = record {
-    peer = subst (λ (p : Peer (DiskBackend D) (DiskNodes D) HeldFact). CanStep w p) (sym same) ready.peer;
-    sendable = subst (λ (os : List Outbox). All (IsSendable w.me) os) (sym none) (All-nil (IsSendable w.me));
-  }
 
 -- fewer than 32 turns wait after the end of a turn
 pub few_left : {D L : Type 0} (seen : D → Option (List ℕ)) (may_leave : D → List ℕ → Type 0) (moment : D → ℕ) (left_since : D → ℕ → List ℕ → Type 0) (faults : D → ℕ) (sent : L → Option (List (ℕ × List ℕ))) (given : L → Option (List (Option (List ℕ)))) (link_faults : L → ℕ) (me waiting left : ℕ) (a b : Server D) (link link_after : L)

@@ -1,8 +1,5 @@
-ghost use Rattle.std.specs.Prelude.{◌≡◌, ◌⊎◌, ℕ, List, IfOk, IfErr};
-ghost use Rattle.std.specs.Io.KnownBytes.{Appends};
-ghost use Rattle.ens_base.specs.Causes.{Rose};
+ghost use Rattle.std.specs.Prelude.{◌⊎◌, ℕ, List, IfOk, IfErr};
 ghost use Rattle.ens_base.specs.declared.status.Status.{Status};
-ghost use Rattle.ens_outside.specs.Written.{AppendsFront};
 ghost use Rattle.peer_serve.specs.DiskPeers.{AreThere, all_there};
 ghost use Rattle.peer_serve.specs.Faults.{fault_text, status_of};
 ghost use Rattle.peer_serve.specs.Serving.{Ended, Failed, IsAmongPeers, Printed, Served, counts_text};

@@ -14,7 +14,7 @@ ghost use Rattle.step_plans.specs.Outboxes.{out_of};
 ghost use Rattle.step_plans.specs.Plans.{Finished, Runs};
 ghost use Rattle.turn_spec.specs.TurnLaws.{ComesFrom};
 ghost use Rattle.turn_spec.specs.Going.{Grew};
-ghost use Rattle.turn_spec.specs.Turns.{Turn, is_client, tick_if};
+ghost use Rattle.turn_spec.specs.Turns.{Turn, is_client};
 
 use crate::commit::{commit, end_turn};
 use crate::disks::DiskPeer;
