@@ -20,7 +20,7 @@ stepped_at_front : (xs : List (List ℕ)) (node : Option Node) (peer : ℕ) (eve
 stepped_at_front xs None peer event w = refl
 stepped_at_front xs (Some node) peer event w = taken_front xs peer (taken peer event node) w
 
-stepped_front : (xs : List (List ℕ)) (peer : ℕ) (event : Event) (w : Run) → stepped peer event (in_front xs w) ≡ in_front xs (stepped peer event w)
+pub stepped_front : (xs : List (List ℕ)) (peer : ℕ) (event : Event) (w : Run) → stepped peer event (in_front xs w) ≡ in_front xs (stepped peer event w)
 stepped_front xs peer event w = stepped_at_front xs (slice_get w.nodes (place_of peer)) peer event w
 
 pub ticked_front : (peer n : ℕ) (xs : List (List ℕ)) (w : Run) → ticked peer n (in_front xs w) ≡ in_front xs (ticked peer n w)
@@ -39,7 +39,7 @@ received_front xs (Some f) n w = by (nat_lt n w.first_alive)
 delivered_front : (xs : List (List ℕ)) (n : ℕ) (w : Run) → delivered n (in_front xs w) ≡ in_front xs (delivered n w)
 delivered_front xs n w = received_front xs (slice_get w.mail.sent n) n w
 
-passed_front : (xs : List (List ℕ)) (n : Option ℕ) (w : Run) → delivered_if n (in_front xs w) ≡ in_front xs (delivered_if n w)
+pub passed_front : (xs : List (List ℕ)) (n : Option ℕ) (w : Run) → delivered_if n (in_front xs w) ≡ in_front xs (delivered_if n w)
 passed_front xs None w = refl
 passed_front xs (Some n) w = delivered_front xs n w
 
@@ -77,7 +77,7 @@ deepening_front xs w = by (may_deepen w)
     by true = refl
     by false = refl
 
-effect_front : (event : ScheduleEvent) (xs : List (List ℕ)) (w : Run) → effect event (in_front xs w) ≡ in_front xs (effect event w)
+pub effect_front : (event : ScheduleEvent) (xs : List (List ℕ)) (w : Run) → effect event (in_front xs w) ≡ in_front xs (effect event w)
 effect_front (Call peer id key command) xs w = stepped_front xs peer (events.Call (call_of id key command)) w
 effect_front (Tick peer ticks) xs w = ticked_front peer ticks xs w
 effect_front (Deliver message) xs w = delivered_front xs (message - 1) w

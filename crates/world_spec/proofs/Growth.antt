@@ -1,8 +1,9 @@
 -- Messages, hashed strings and peers are never removed.
 use Rattle.std.proofs.Common.{◌≡◌, ◌≤◌, ◌+◌, ◌-◌, ◌∙◌, ℕ, zero, suc, Option, None, Some, List, [], ◌∷◌, ◌++◌, length, refl, sym, ap, subst, map, arith}
-use Rattle.std.proofs.lemmas.List.{append_assoc, length-append, length-set}
+use Rattle.std.proofs.lemmas.List.{append_assoc, length-append, length-set, append-nil}
 use Rattle.std.specs.Prelude.{Bool, true, false, nat_lt, if◌then◌else◌, slice_get}
-use Rattle.network.specs.Mail.{Mail, posted, settled, goes, is_among, oldest, most_messages}
+use Rattle.network.specs.Mail.{Mail, posted, settled, goes, is_among, oldest, most_messages, IsMail}
+use Rattle.network.proofs.MailLaws.{is_mail_posted}
 use Rattle.peer_state.specs.declared.event.Event.{Event}
 use Rattle.peer_state.specs.declared.event.Event.TheVariants as events
 use Rattle.schedule_text.specs.declared.event.ScheduleEvent.{ScheduleEvent}
@@ -22,6 +23,14 @@ length_posted m f = length-append m.sent (f ∷ [])
 pub length_posted_all : (fs : List Frame) (m : Mail) → length (posted_all fs m).sent ≡ length m.sent + length fs
 length_posted_all [] m = omega arith
 length_posted_all (f ∷ fs) m = rw (length_posted_all fs (posted m f)) (rw (length_posted m f) (omega arith))
+
+pub sent_after : (frames : List Frame) (m : Mail) → (posted_all frames m).sent ≡ m.sent ++ frames
+sent_after [] m = sym (append-nil m.sent)
+sent_after (f ∷ frames) m = sent_after frames (posted m f) ∙ append_assoc m.sent (f ∷ []) frames
+
+pub posted_mail : (frames : List Frame) (m : Mail) → IsMail m → IsMail (posted_all frames m)
+posted_mail [] m is = is
+posted_mail (f ∷ frames) m is = posted_mail frames (posted m f) (is_mail_posted m f is)
 
 -- one run goes on from another: no message and no hashed string was removed
 pub record IsFurther (near far : Run) : Type 0 where
@@ -193,7 +202,7 @@ damage_grows peer key bytes w =
     let change = changed_grows peer (over_stores (segment_spoiled key bytes)) w in
     record { sent = change.sent; hashed = starts_later w.hashed v.hashed (with_damage peer key bytes w).hashed change.hashed (key ∷ [], refl) }
 
-passed_grows : (n : Option ℕ) (w : Run) → IsFurther w (delivered_if n w)
+pub passed_grows : (n : Option ℕ) (w : Run) → IsFurther w (delivered_if n w)
 passed_grows None w = further_same w
 passed_grows (Some n) w = delivered_grows n w
 
@@ -205,7 +214,7 @@ deepening_grows w = by (may_deepen w)
     by false = further_same w
 
 -- no line removes a message or a hashed string
-effect_grows : (event : ScheduleEvent) (w : Run) → IsFurther w (effect event w)
+pub effect_grows : (event : ScheduleEvent) (w : Run) → IsFurther w (effect event w)
 effect_grows (Call peer id key command) w = stepped_grows peer (events.Call (call_of id key command)) w
 effect_grows (Tick peer ticks) w = ticked_grows peer ticks w
 effect_grows (Deliver message) w = delivered_grows (message - 1) w

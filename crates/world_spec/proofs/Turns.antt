@@ -1,16 +1,14 @@
 -- One tick or one delivery, followed by the rest.
-use Rattle.std.proofs.Common.{◌≡◌, ◌<◌, ◌+◌, ◌-◌, ℕ, suc, None, Some, List, refl, ap, ◌∙◌, arith}
+use Rattle.std.proofs.Common.{◌≡◌, ◌<◌, ◌+◌, ◌-◌, ℕ, suc, None, Some, List, refl, ap, ◌∙◌}
 use Rattle.std.specs.Prelude.{Bool}
 use Rattle.network.specs.Mail.{is_among, oldest}
 use Rattle.peer_state.specs.declared.event.Event.TheVariants as events
 use Rattle.world_spec.specs.Runs.{Run, stepped, ticked, delivered, going_on, calmed}
+use Rattle.held_stores.proofs.PeerPlan.{one_turn as one_more}
 
 pub no_tick : (peer : ℕ) (w : Run) → ticked peer 0 w ≡ w
 unfolding ticked
 no_tick peer w = refl
-
-pub one_more : (n i : ℕ) → i < n → n - i ≡ suc (n - (i + 1))
-one_more n i below = omega (arith, below)
 
 tick : (peer k : ℕ) (w : Run) → ticked peer (suc k) w ≡ ticked peer k (stepped peer events.Tick w)
 unfolding ticked
