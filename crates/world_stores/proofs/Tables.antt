@@ -10,6 +10,7 @@ use Rattle.std.specs.Ordering.{ordering_reverse}
 use Rattle.indexmap.specs.IndexMap.{insert_entry}
 use Rattle.ens_base.specs.Lists.{bytes_cmp}
 use Rattle.ens_outside.specs.Maps.{Entries, value_at, with_value}
+use Rattle.ens_outside.proofs.MapLaws.{found_after}
 use Rattle.world_stores.specs.Maps.{map_of, without}
 
 itself : (k : List ℕ) → bytes_cmp k k ≡ Equal
@@ -66,15 +67,6 @@ at_is k l h = by_order (bytes_cmp k l) refl
     by_order Less order = let bad : false ≡ true = sym (ap is_eq order) ∙ h in absurd cc
     by_order Equal order = exact_bytes k l order
     by_order Greater order = let bad : false ≡ true = sym (ap is_eq order) ∙ h in absurd cc
-
-here : (k v : List ℕ) (es : Entries) → value_at k (with_value k v es) ≡ Some v
-here k v [] = rw (itself k) refl
-here k v (e ∷ es) = by_order (bytes_cmp k e.0) refl (here k v es)
-  where
-    by_order : (o : Ordering) → bytes_cmp k e.0 ≡ o → value_at k (with_value k v es) ≡ Some v → value_at k (with_value k v (e ∷ es)) ≡ Some v
-    by_order Less order later = rw (order, itself k) refl
-    by_order Equal order later = rw (order, order) refl
-    by_order Greater order later = rw (order, order) later
 
 off : (k l : List ℕ) → k ≢ l → is_at (bytes_cmp k) l ≡ false
 off k l differ = by_order (bytes_cmp k l) refl
@@ -228,7 +220,7 @@ module _ (eq : List ℕ → List ℕ → Bool) (yes : (k l : List ℕ) → eq k 
   table_found k (e ∷ es) = by_test (eq k e.0) refl (table_found k es)
     where
       by_test : (b : Bool) → eq k e.0 ≡ b → value_at k (map_of es) ≡ lookup (eq k) es → value_at k (map_of (e ∷ es)) ≡ cond b (Some e.1) (lookup (eq k) es)
-      by_test true is later = subst (λ (q : List ℕ). value_at q (map_of (e ∷ es)) ≡ Some e.1) (sym (yes k e.0 is)) (here e.0 e.1 (map_of es))
+      by_test true is later = subst (λ (q : List ℕ). value_at q (map_of (e ∷ es)) ≡ Some e.1) (sym (yes k e.0 is)) (found_after e.0 e.1 (map_of es))
       by_test false is later = elsewhere k e.0 e.1 (map_of es) (no k e.0 is) ∙ later
 
   -- the entry of a key is lost, and the others keep their values, in whatever order
