@@ -1,5 +1,5 @@
 -- Equal bytes, and members of mapped lists and of concatenations.
-use Rattle.std.proofs.Common.{◌≡◌, ◌⊎◌, ℕ, Bool, true, false, List, [], ◌∷◌, ◌++◌, eqb, map, inl, inr, refl, ap}
+use Rattle.std.proofs.Common.{◌≡◌, ◌≤◌, ◌⊎◌, ◌==◌, ℕ, zero, suc, Bool, true, false, List, [], ◌∷◌, ◌++◌, eqb, length, map, take, inl, inr, refl, ap, arith}
 use Rattle.std.specs.Prelude.{◌||◌}
 use Rattle.std.proofs.lemmas.Bool.{false≢true, eqb-true, eq-eqb}
 use Rattle.std.proofs.lemmas.Slice.Eq.{bytes_eq-Decides}
@@ -16,6 +16,11 @@ pub in-map : {A B : Type 0} (f : A → B) (xs : List A) (x : A) → x ∈ xs →
 in-map f [] x h = absurd h
 in-map f (y ∷ ys) x (inl e) = inl (ap f e)
 in-map f (y ∷ ys) x (inr h) = inr (in-map f ys x h)
+
+pub from_map : {A B : Type 0} (f : A → B) (xs : List A) (y : B) → y ∈ map f xs → (x : A) × (x ∈ xs) × (y ≡ f x)
+from_map f [] y h = absurd h
+from_map f (x ∷ xs) y (inl e) = (x, inl refl, e)
+from_map f (x ∷ xs) y (inr h) = let later = from_map f xs y h in (later.0, inr later.1, later.2)
 
 pub in_append : {A : Type 0} (xs ys : List A) (z : A) → z ∈ (xs ++ ys) → (z ∈ xs) ⊎ (z ∈ ys)
 in_append [] ys z h = inr h
@@ -52,3 +57,14 @@ tested_in (x ∷ xs) q (inr h) = by_cases (tested_in xs q h) (eqb q x)
     by_cases : is_in xs q ≡ true → (b : Bool) → (b || is_in xs q) ≡ true
     by_cases rest true = refl
     by_cases rest false = rest
+
+-- one more number
+pub is_in-push : (ns : List ℕ) (m n : ℕ) → is_in (ns ++ m ∷ []) n ≡ (is_in ns n || n == m)
+is_in-push [] m n = grind arith
+is_in-push (k ∷ ns) m n = let rest = is_in-push ns m n in grind arith
+
+-- a front has at most its length
+pub take_few : {A : Type 0} (n : ℕ) (xs : List A) → length (take n xs) ≤ n
+take_few zero xs = omega arith
+take_few (suc n) [] = omega arith
+take_few (suc n) (x ∷ xs) = omega (arith, take_few n xs)
