@@ -2,6 +2,7 @@
 use Rattle.std.proofs.Common.{◌≡◌, ◌⊎◌, ℕ, List, Option, None, Some, Result, Ok, Err, refl, inl, inr, sym, ap, ◌∙◌, arith}
 use Rattle.std.specs.Prelude.{IsSomeAnd}
 use Rattle.ens_base.specs.declared.status.Status.{Status}
+use Rattle.ens_base.proofs.Statuses.{memory_not_done, memory_no_fault}
 use Rattle.tree_backup.specs.Checks.{check_of}
 use Rattle.tree_backup.specs.declared.error.BackupError.{BackupError}
 use Rattle.tree_backup.specs.declared.item.Content.{Content}
@@ -13,18 +14,12 @@ at_usage e = cc e
 pub fault_at_usage : ◌≡◌ {A = Status} Status.Usage Status.ReadFault → ⊥
 fault_at_usage e = cc e
 
-pub at_memory : ◌≡◌ {A = Status} Status.Memory Status.Done → ⊥
-at_memory e = cc e
-
-pub fault_at_memory : ◌≡◌ {A = Status} Status.Memory Status.ReadFault → ⊥
-fault_at_memory e = cc e
-
 -- a job that ended before it began read nothing
 pub usage_read : (source : Option (List ℕ)) (before now : ℕ) → HasRead source source before now Status.Usage
 usage_read source before now = record { end = λ e. absurd (at_usage e); fault = λ e. absurd (fault_at_usage e) }
 
 pub memory_read : (source : Option (List ℕ)) (before now : ℕ) → HasRead source source before now Status.Memory
-memory_read source before now = record { end = λ e. absurd (at_memory e); fault = λ e. absurd (fault_at_memory e) }
+memory_read source before now = record { end = λ e. absurd (memory_not_done e); fault = λ e. absurd (memory_no_fault e) }
 
 not_both : (content : Content) (error : BackupError) → (let r : Result Content BackupError = Ok content in r) ≡ Err error → ⊥
 not_both content error e = cc

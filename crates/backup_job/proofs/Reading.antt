@@ -5,6 +5,7 @@ use Rattle.std.specs.Io.KnownBytes.{IsAtEnd}
 use Rattle.std.specs.declared.alloc.AllocError.{AllocError}
 use Rattle.ens_base.specs.Causes.{Rose}
 use Rattle.ens_base.specs.declared.status.Status.{Status}
+use Rattle.ens_base.proofs.Statuses.{memory_not_done, memory_no_fault}
 use Rattle.tree_backup.specs.declared.error.BackupError.{BackupError}
 use Rattle.tree_backup.specs.declared.error.BackupError.TheVariants as errors
 use Rattle.backup_job.specs.Printed.{EndsAs, HasRead, PrintsCheck, Reads, Reports, Stops, Unread, memory_text}
@@ -64,16 +65,10 @@ as_ok ending e text is spelled = rw is (refl, spelled)
 pub as_err : (ending : Result Ending AllocError) (x : AllocError) → ending ≡ Err x → EndsAs ending Status.Memory memory_text
 as_err ending x is = rw is (refl, refl)
 
-memory_done : ◌≡◌ {A = Status} Status.Memory Status.Done → ⊥
-memory_done e = cc
-
-memory_fault : ◌≡◌ {A = Status} Status.Memory Status.ReadFault → ⊥
-memory_fault e = cc
-
 -- how far a job read that ends so
 pub read_as : (ending : Result Ending AllocError) (source left : Option (List ℕ)) (before now : ℕ) (status : Status) (text : List ℕ) → IfOk ending (λ e. e.status ≡ Status.Done → IsAtEnd left) → IfOk ending (λ e. e.status ≡ Status.ReadFault → Rose before now) → EndsAs ending status text → HasRead source left before now status
 read_as (Ok e) source left before now status text end fault (is, spelled) = rw is (record { end = end; fault = fault })
-read_as (Err e) source left before now status text end fault (is, spelled) = rw is (record { end = λ x. absurd (memory_done x); fault = λ x. absurd (memory_fault x) })
+read_as (Err e) source left before now status text end fault (is, spelled) = rw is (record { end = λ x. absurd (memory_not_done x); fault = λ x. absurd (memory_no_fault x) })
 
 module _ {D : Type 0} (seen : D → Option (List ℕ)) (faults : D → ℕ) where
   -- a source that did not pass touched no disk

@@ -1,6 +1,6 @@
 -- The nodes and the roles of a world after the node of one peer changed, and what was said once a peer
 -- has sent its messages.
-use Rattle.std.proofs.Common.{◌≡◌, ◌<◌, ℕ, zero, suc, nat_lt, true, false, ◌⊎◌, inl, inr, length, List, [], ◌∷◌, ◌++◌, map, Option, None, Some, slice_get, slice_set, append_assoc, append-nil, arith, refl, sym, ap, ◌∙◌, subst}
+use Rattle.std.proofs.Common.{◌≡◌, ◌<◌, ℕ, zero, suc, nat_lt, true, false, ◌⊎◌, inl, inr, length, List, [], ◌∷◌, ◌++◌, map, Option, None, Some, slice_get, slice_set, arith, refl, sym, ap, ◌∙◌, subst}
 use Rattle.ens_base.proofs.Lists.{in_left, in_right}
 use Rattle.std.specs.Prelude.{All}
 use Rattle.std.proofs.lemmas.Bool.{and_parts}
@@ -17,6 +17,7 @@ use Rattle.version_laws.proofs.Maps.{put_then}
 use Rattle.wire_frames.specs.declared.frame.Frame.{Frame}
 use Rattle.world_spec.specs.Nodes.{Node, is_down, all_down}
 use Rattle.world_spec.specs.Runs.{place_of, frame_from, posted_all}
+use Rattle.world_spec.proofs.Growth.{sent_after}
 use Rattle.call_refinement.specs.Roles.{role_of, role_at, roles_of, said_in}
 use Rattle.call_refinement.specs.Worlds.{AllFrom}
 use Rattle.step_refinement.specs.Roles.{said_of, said_by, said_in_sends}
@@ -80,13 +81,9 @@ said_in_frames : (p : ℕ) (sends : List Outgoing) → said_in (map (frame_from 
 said_in_frames p [] = refl
 said_in_frames p (o ∷ sends) = ap (λ (rest : List Sent). said_by p (said_of o.message) rest) (said_in_frames p sends)
 
-sent_posted : (frames : List Frame) (m : Mail) → (posted_all frames m).sent ≡ m.sent ++ frames
-sent_posted [] m = sym (append-nil m.sent)
-sent_posted (f ∷ frames) m = sent_posted frames (posted m f) ∙ append_assoc m.sent (f ∷ []) frames
-
 -- what was said once a peer has sent these messages
 pub said_posted : (p : ℕ) (sends : List Outgoing) (mail : Mail) (m : Sent) → m ∈ said_in (posted_all (map (frame_from p) sends) mail).sent → m ∈ (said_in_sends p sends ++ said_in mail.sent)
-said_posted p sends mail m at = by_place (said_in_both mail.sent (map (frame_from p) sends) m (subst (λ (frames : List Frame). m ∈ said_in frames) (sent_posted (map (frame_from p) sends) mail) at))
+said_posted p sends mail m at = by_place (said_in_both mail.sent (map (frame_from p) sends) m (subst (λ (frames : List Frame). m ∈ said_in frames) (sent_after (map (frame_from p) sends) mail) at))
   where
     by_place : (m ∈ said_in mail.sent) ⊎ (m ∈ said_in (map (frame_from p) sends)) → m ∈ (said_in_sends p sends ++ said_in mail.sent)
     by_place (inl old) = in_right (said_in_sends p sends) (said_in mail.sent) m old

@@ -35,11 +35,11 @@ use Rattle.step_plans.specs.declared.error.PeerError.{PeerError}
 use Rattle.step_plans.specs.declared.error.PeerError.TheVariants.{StoreFault}
 use Rattle.sync_laws.specs.Facts.{Lines}
 use Rattle.step_refinement.proofs.SyncRefinement.{stays}
-use Rattle.sync_rule.specs.Syncs.{is_none, is_clean}
+use Rattle.sync_rule.specs.Syncs.{is_clean}
+use Rattle.sync_rule.proofs.Same.{none_is}
 use Rattle.synctree.specs.Seals.{if_sealed}
 use Rattle.tree_maps.specs.Entries.{lookup}
 use Rattle.tree_node.specs.declared.body.Scan.{Scan}
-use Rattle.tree_node.specs.declared.position.Position.{Position}
 use Rattle.tree_node.specs.declared.version.TreeVersion.{TreeVersion}
 use Rattle.tree_node.specs.declared.version.TreeVersion.TheVariants.{One, Two}
 use Rattle.tree_refinement.proofs.Keeping.{grows, spares, versions}
@@ -200,11 +200,6 @@ start_node version lines strings s q (Stopped error) h notes ends = ends
 start_role : (version : TreeVersion) (lines : Lines) (strings : List (List ℕ)) (s : State) (q : ℕ) (e : Ending PeerState) (h : Held) (notes : List Note) → StartEnds version lines strings s q e h → role_of (taken_by e h notes).node ≡ Follows []
 start_role version lines strings s q (Finished x out) h notes ends = ap (λ (phase : Phase). role_in [] phase []) ends.1
 start_role version lines strings s q (Stopped error) h notes ends = refl
-
--- a scan without damage names no position
-no_damage : (damaged : List Position) → is_none damaged ≡ true → damaged ≡ []
-no_damage [] clean = refl
-no_damage (p ∷ damaged) clean = absurd cc
 
 module _ (lines : Lines) (strings : List (List ℕ)) (s : State) (q : ℕ) (free : AreFree strings) (may : ShownMayReturn s) where
   opens_so : (tree : TreeVersion) (seal : Option (List ℕ)) (h : Held) → (last : LastMap s strings h.hashed q seal (tops_of h.stores)) → s.objects.trusted q ≡ false → IsOpened s.objects q seal last.map h (answered (OpenTree seal tree) h).held (answered (OpenTree seal tree) h).result
@@ -435,7 +430,7 @@ module _ (lines : Lines) (strings : List (List ℕ)) (s : State) (q : ℕ) (free
 
       -- a whole scan has the map
       map_is : is_whole scan ≡ true → scan.entries ≡ k.last.map
-      map_is whole = ap (λ (x : Scan). x.entries) (all_entries k.last.map scan (no_damage scan.damaged (and_parts (is_clean scan) (ascends [] scan.entries) whole).0) seen.0)
+      map_is whole = ap (λ (x : Scan). x.entries) (all_entries k.last.map scan (none_is scan.damaged (and_parts (is_clean scan) (ascends [] scan.entries) whole).0) seen.0)
 
       by : (b : Bool) → is_whole scan ≡ b → Ends Two (if b then migrated mode saved scan.entries else continued Two mode saved) t
       by true whole = subst (λ (entries : List Entry). Ends Two (migrated mode saved entries) t) (sym (map_is whole)) (migrated_ends mode saved t is on)

@@ -17,10 +17,10 @@ use Rattle.call_table.specs.Best.{entry_cmp, either_object, better_at, better, b
 
 -- ## The order of entries
 
-entries : IsTotalOrder entry_cmp
+pub entries : IsTotalOrder entry_cmp
 entries = then_total (on_total (λ (e : Entry). e.version) versions) (then_total (on_total (λ (e : Entry). e.digest) nat_list_cmp_total) (on_total (λ (e : Entry). e.key) nat_list_cmp_total))
 
-same_entries : (a b : Entry) → entry_cmp a b ≡ Equal → a ≡ b
+pub same_entries : (a b : Entry) → entry_cmp a b ≡ Equal → a ≡ b
 same_entries a b h =
     let parts = both_equal (on (λ (e : Entry). e.version) version_cmp) (then_cmp (on (λ (e : Entry). e.digest) bytes_cmp) (on (λ (e : Entry). e.key) bytes_cmp)) a b h in
     let rest = both_equal (on (λ (e : Entry). e.digest) bytes_cmp) (on (λ (e : Entry). e.key) bytes_cmp) a b parts.1 in

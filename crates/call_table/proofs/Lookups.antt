@@ -1,15 +1,11 @@
 -- What is found at each key after a change at one key.
-use Rattle.std.proofs.Common.{◌≡◌, ◌≤◌, arith, ℕ, Bool, true, false, cond, List, [], ◌∷◌, length, Option, None, Some, Result, Ok, Err, refl, sym, ap, subst, ◌∙◌}
-use Rattle.std.specs.Prelude.{IsSome, OnErr}
+use Rattle.std.proofs.Common.{◌≡◌, ◌≤◌, arith, ℕ, Bool, true, false, cond, List, [], ◌∷◌, length, Option, Some, refl, sym, ap, subst, ◌∙◌}
 use Rattle.std.specs.BTreeMap.{get, BTreeMap, UpdatesBy, WritesThrough}
 use Rattle.std.proofs.lemmas.Map.Text.{is_eq-slice_cmp}
 use Rattle.ens_base.specs.Lists.{bytes_cmp, same_bytes}
 use Rattle.ens_base.proofs.Lists.{bytes_same}
+use Rattle.ens_base.proofs.Tests.{some_of}
 use Rattle.call_table.specs.Queues.{list_or_empty, rest_of}
-
-some_of : {A : Type 0} (o : Option A) (x : A) → Some x ≡ o → IsSome o
-some_of None x h = absurd cc
-some_of (Some y) x h = refl
 
 module _ (f : List ℕ → List ℕ) (was w : Option (List ℕ)) (change : list_or_empty w ≡ f (list_or_empty was)) where
   at_key : (b : Bool) (old new : Option (List ℕ)) → new ≡ cond b w old → (b ≡ true → old ≡ was) → list_or_empty new ≡ cond b (f (list_or_empty old)) (list_or_empty old)
@@ -28,15 +24,7 @@ pub written : (f : List ℕ → List ℕ) (was w : List ℕ) → w ≡ f was →
     → (k : List ℕ) → list_or_empty (get bytes_cmp n k) ≡ cond (same_bytes key k) (f (list_or_empty (get bytes_cmp m k))) (list_or_empty (get bytes_cmp m k))
 written f was w change m n key writes here = changed f (Some was) (Some w) change m n key (writes.3 (some_of (get bytes_cmp m key) was here)) here
 
-pub either_way : (b : Bool) (xs : List ℕ) → cond b xs xs ≡ xs
-either_way true xs = refl
-either_way false xs = refl
-
 pub rest_of_few : (xs : List ℕ) → length xs ≤ 1 → [] ≡ rest_of xs
 rest_of_few [] h = refl
 rest_of_few (x ∷ []) h = refl
 rest_of_few (x ∷ y ∷ xs) h = absurd (omega (arith, h))
-
-pub on_err : {A E : Type 0} (r : Result A E) (P : Type 0) → P → OnErr r P
-on_err (Ok a) P p = tt
-on_err (Err e) P p = p

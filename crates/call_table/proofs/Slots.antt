@@ -5,6 +5,7 @@ use Rattle.std.proofs.lemmas.List.{take-append-drop, length-take, length-append,
 use Rattle.std.proofs.Math.Seq.{drop-cons, take-add}
 use Rattle.std.specs.Option.{option_copied}
 use Rattle.std.proofs.lemmas.Bool.Decides.{nat_tests}
+use Rattle.std.proofs.Math.Numerals.{suc-eq-add-one}
 use Rattle.ens_base.specs.Lists.{same_bytes}
 use Rattle.ens_base.proofs.Lists.{bytes_same, bytes_itself}
 use Rattle.call_table.specs.declared.places.Places.{Places}
@@ -84,9 +85,6 @@ none_running key (Some w ∷ slots) at e = by_key (same_bytes w.key key) e (none
     by_key true h later = absurd cc
     by_key false h later = ((later h).0, ap (λ (ws : List Waiting). w ∷ ws) (later h).1)
 
-one_more : (n : ℕ) → suc n ≡ n + 1
-one_more n = omega arith
-
 one_behind : (m n : ℕ) → m ≡ n + 1 → suc m ≡ suc n + 1
 one_behind m n e = omega (arith, e)
 
@@ -141,7 +139,7 @@ module _ (key : List ℕ) (w : Waiting) (slots : List (Option Waiting)) (at : �
     within = omega arith;
     call = λ d. rw on refl;
     rest = rw on refl;
-    less = one_more (length (present slots));
+    less = suc-eq-add-one (length (present slots));
     places = λ k. emptied on k (places_on k (at + 1) slots);
   }
 

@@ -24,6 +24,7 @@ use Rattle.wire_frames.specs.declared.frame.Frame.{Frame}
 use Rattle.wire_frames.specs.declared.message.Message.{Message}
 use Rattle.wire_frames.specs.declared.message.Message.TheVariants as messages
 use Rattle.call_refinement.specs.WorldSpec.{Run, frame_from, posted_all, received}
+use Rattle.call_refinement.proofs.WorldSpec.{posted_mail}
 use Rattle.calm_steps.proofs.Bystanders.{tells, on_probe, on_prepare, on_new_epoch}
 use Rattle.calm_steps.proofs.CandidateSteps.{ballot, opened, promised, accepted}
 use Rattle.calm_steps.proofs.Keeping.{Keeping, Standing}
@@ -31,7 +32,7 @@ use Rattle.calm_steps.proofs.Lands.{Aim, Lands}
 use Rattle.calm_steps.proofs.MemberSteps.{on_prepare_again, on_epoch_again}
 use Rattle.calm_runs.proofs.Elections.{Step, Quiet, Probes, Prepares, Starts, Led, rests, candidate, MayHave, IsHeard, MayAsk, MayReply, IsOther, MayWait, Other, Elects, asking, replying}
 use Rattle.calm_runs.proofs.ElectionMembers.{stays_heard, probe_heard, promise_heard, ignored_heard, acceptance_heard}
-use Rattle.calm_runs.proofs.Parts.{is_mail_all, alone_has, alone_only, told_one}
+use Rattle.calm_runs.proofs.Parts.{alone_has, alone_only, told_one}
 use Rattle.calm_runs.proofs.Posting.{frame_sent, posted_only}
 use Rattle.calm_runs.proofs.Standing.{Stands, stands_here, stands_other, whole_saved}
 use Rattle.calm_runs.proofs.Waiting.{kinds_stay}
@@ -74,7 +75,7 @@ module _ (me : ℕ) (view : List ℕ) (is_peer : IsPeer me) (peers : (q : ℕ) �
       leader = stands_other q (rests now) keep g out ms (record w { mail = settled w.mail n }) me (candidate me view step) [] (peers q other.0) is_peer (λ same. other.1 (sym same)) grown (at_mail w (settled w.mail n) me (candidate me view step) e.leader);
       under = e.under;
       crowd = record {
-        mail = is_mail_all (frames out) (settled w.mail n) (is_mail_settled w.mail n e.crowd.mail);
+        mail = posted_mail (frames out) (settled w.mail n) (is_mail_settled w.mail n e.crowd.mail);
         others = λ k is. by k is (k == q) refl;
         kinds = kinds_stay (MayWait me view step) (MayWait me view step) w.mail n (frames out) e.crowd.mail e.crowd.kinds (λ f kind. kind) sent;
       };

@@ -6,7 +6,7 @@ use Rattle.ens_base.specs.PeerSet.{holds}
 use Rattle.ens_base.specs.View.{IsPeer}
 use Rattle.joint_views.specs.Members.{members}
 use Rattle.network.proofs.MailLaws.{is_mail_settled}
-use Rattle.network.specs.Mail.{Mail, IsMail, settled}
+use Rattle.network.specs.Mail.{Mail, settled}
 use Rattle.peer_fact.specs.declared.fact.Fact.{Fact}
 use Rattle.phase_rows.specs.Peers.{alone, others_of, joined}
 use Rattle.step_plans.specs.Sends.{posted_to}
@@ -14,20 +14,15 @@ use Rattle.wire_frames.specs.declared.frame.Frame.{Frame}
 use Rattle.wire_frames.specs.declared.message.Message.{Message}
 use Rattle.wire_frames.specs.declared.message.Message.TheVariants as messages
 use Rattle.call_refinement.specs.WorldSpec.{Run, frame_from, posted_all}
+use Rattle.call_refinement.proofs.WorldSpec.{posted_mail}
 use Rattle.calm_steps.proofs.CandidateSteps.{ballot, opened, promised, accepted}
-use Rattle.calm_runs.proofs.Waits.{Waits, AllWaiting}
+use Rattle.calm_runs.proofs.Waits.{Waits}
 use Rattle.calm_runs.proofs.ElectionMembers.{still_waits}
 use Rattle.calm_runs.proofs.Elections.{Step, Quiet, Probes, Prepares, Starts, Led, MayHave, IsHeard, MayAsk, MayReply, IsOther, MayWait, Crowd, asking, replying}
-use Rattle.calm_runs.proofs.Parts.{flag_here, flag_kept, is_mail_all}
+use Rattle.calm_runs.proofs.Parts.{flag_here, flag_kept}
 use Rattle.calm_runs.proofs.Standing.{goes_to_all, goes_to_others}
-use Rattle.calm_runs.proofs.Waiting.{waits_settled, waits_new, was_all_posted, was_settled}
-
--- each waiting message is of a kind, also after these are sent
-kinds_posted : (K L : Frame → Type 0) (m : Mail) (fs : List Frame) → IsMail m → AllWaiting K m → ((f : Frame) → K f → L f) → ((f : Frame) → f ∈ fs → L f) → AllWaiting L (posted_all fs m)
-kinds_posted K L m fs mail all old new f w = by (was_all_posted fs m f mail w) where
-  by : Waits m f ⊎ (f ∈ fs) → L f
-  by (inl v) = old f (all f v)
-  by (inr is) = new f is
+use Rattle.calm_runs.proofs.Waiting.{waits_settled, waits_new, was_settled}
+use Rattle.calm_runs.proofs.ServedVotes.{kinds_posted}
 
 module _ (me : ℕ) (view : List ℕ) (is_peer : IsPeer me) (peers : (q : ℕ) → q ∈ view → IsPeer q) where
   -- what may wait at one step may wait at another
@@ -51,7 +46,7 @@ module _ (me : ℕ) (view : List ℕ) (is_peer : IsPeer me) (peers : (q : ℕ) �
 
   pub begins_probes : (ticks : ℕ) (m : Mail) (w : Run) → Crowd me view (Quiet ticks) m w → Crowd me view (Probes (alone me)) (posted_all (all_others messages.Probe) m) w
   begins_probes ticks m w c = record {
-    mail = is_mail_all (all_others messages.Probe) m c.mail;
+    mail = posted_mail (all_others messages.Probe) m c.mail;
     others = λ q is. let o = c.others q is in record {
       fact = o.fact;
       stands = o.stands;
@@ -65,7 +60,7 @@ module _ (me : ℕ) (view : List ℕ) (is_peer : IsPeer me) (peers : (q : ℕ) �
   begins_prepares set m w c =
       let message : Message = messages.Prepare (ballot me view) in
       record {
-        mail = is_mail_all (all_others message) m c.mail;
+        mail = posted_mail (all_others message) m c.mail;
         others = λ q is. let o = c.others q is in record {
           fact = o.fact;
           stands = o.stands;
@@ -92,7 +87,7 @@ module _ (me : ℕ) (view : List ℕ) (is_peer : IsPeer me) (peers : (q : ℕ) �
   begins_starts set m w c =
       let message : Message = messages.NewEpoch (accepted me view) in
       record {
-        mail = is_mail_all (all_others message) m c.mail;
+        mail = posted_mail (all_others message) m c.mail;
         others = λ q is. let o = c.others q is in record {
           fact = o.fact;
           stands = o.stands;

@@ -8,24 +8,19 @@ use Rattle.ens_base.specs.Lists.{◌∈◌}
 use Rattle.ens_base.specs.PeerSet.{holds}
 use Rattle.ens_base.specs.View.{IsPeer}
 use Rattle.leader_words.specs.declared.out.Outgoing.{Outgoing}
-use Rattle.network.proofs.MailLaws.{is_mail_posted}
-use Rattle.network.specs.Mail.{Mail, IsMail, posted, settled}
+use Rattle.network.specs.Mail.{settled}
 use Rattle.peer_state.specs.declared.event.Event.TheVariants as events
 use Rattle.phase_rows.specs.Peers.{alone, nobody}
 use Rattle.calm_steps.specs.TreeRefinement.{AreAmong}
 use Rattle.wire_frames.specs.declared.frame.Frame.{Frame}
 use Rattle.wire_frames.specs.declared.message.Message.{Message}
-use Rattle.call_refinement.specs.WorldSpec.{Node, Run, place_of, frame_from, posted_all, received, stepped_at}
-use Rattle.leading_laws.proofs.Votes.{none_held}
+use Rattle.call_refinement.specs.WorldSpec.{Node, Run, place_of, frame_from, received, stepped_at}
+use Rattle.joint_views.proofs.Sets.{no_flag}
 
 -- ## Nodes and messages
 
 pub places_apart : (p q : ℕ) → IsPeer p → IsPeer q → p ≢ q → place_of p ≡ place_of q → ⊥
 places_apart p q pp qq other same = other (omega (arith, pp.0, qq.0, same))
-
-pub is_mail_all : (fs : List Frame) (m : Mail) → IsMail m → IsMail (posted_all fs m)
-is_mail_all [] m mail = mail
-is_mail_all (f ∷ fs) m mail = is_mail_all fs (posted m f) (is_mail_posted m f mail)
 
 -- ## Sets of peers
 
@@ -48,7 +43,7 @@ pub alone_only : (p k : ℕ) → holds (alone p) k ≡ true → k ≡ p
 alone_only p k voted = by (k == p) refl where
   by : (b : Bool) → (k == p) ≡ b → k ≡ p
   by true same = eqb-true k p same
-  by false other = absurd (false≢true (sym (get_or-set_other nobody p k true false (eqb-false k p other) ∙ none_held 32 k) ∙ voted))
+  by false other = absurd (false≢true (sym (get_or-set_other nobody p k true false (eqb-false k p other) ∙ no_flag 32 k) ∙ voted))
 
 -- what one peer is told goes to it alone
 pub told_one : (q p : ℕ) (m : Message) (sends : List Outgoing) (f : Frame) → ((x : Outgoing) → x ∈ sends → (x.to ≡ p) × (x.message ≡ m)) → f ∈ map (frame_from q) sends → (let g : Frame = record { from = q; to = p; message = m } in f ≡ g)

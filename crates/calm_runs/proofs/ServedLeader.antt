@@ -30,7 +30,7 @@ use Rattle.key_commands.specs.declared.verdict.Verdict.TheVariants.{Write, Answe
 use Rattle.kept_objects.specs.Kept.{entry_of}
 use Rattle.leader_words.specs.declared.out.AnswerOut.{AnswerOut}
 use Rattle.leader_words.specs.declared.out.Outgoing.{Outgoing}
-use Rattle.leading_laws.proofs.Lookups.{stage_here}
+use Rattle.leading_laws.proofs.Lookups.{stage_here, known_here}
 use Rattle.leading.specs.Leaders.{settled_as, is_spent}
 use Rattle.leading.specs.declared.leader.Leader.{Leader}
 use Rattle.leading.specs.declared.pending.Pending.{Pending}
@@ -56,6 +56,7 @@ use Rattle.wire_frames.specs.declared.message.Message.{Message}
 use Rattle.wire_frames.specs.declared.message.Message.TheVariants as messages
 use Rattle.call_refinement.specs.WorldSpec.{Up, Run, place_of, frame_from, next_event, posted_all}
 use Rattle.call_refinement.proofs.ChangedNodes.{set_same}
+use Rattle.call_refinement.proofs.WorldSpec.{posted_mail}
 use Rattle.calm_steps.proofs.CandidateSteps.{ballot, accepted}
 use Rattle.calm_steps.proofs.CheckReplies.{ended_calls}
 use Rattle.calm_steps.proofs.Contents.{OutcomeFits, outcome_fits}
@@ -71,10 +72,9 @@ use Rattle.calm_runs.proofs.Waits.{AllWaiting}
 use Rattle.calm_runs.proofs.ElectionReplies.{sent_both}
 use Rattle.calm_runs.proofs.ElectionRequests.{IsQuiet}
 use Rattle.calm_runs.proofs.Elections.{IsOther, rests}
-use Rattle.calm_runs.proofs.Parts.{is_mail_all}
 use Rattle.calm_runs.proofs.Rounds.{begins}
 use Rattle.calm_runs.proofs.ServedMembers.{with_map, map_here, map_other, each_map, at_mail}
-use Rattle.calm_runs.proofs.ServedRows.{known_here, known_stays, ended_rows, check_here, fits_in, staged, learned, numbered, rounded, freed, stored}
+use Rattle.calm_runs.proofs.ServedRows.{known_stays, ended_rows, check_here, fits_in, staged, learned, numbered, rounded, freed, stored}
 use Rattle.calm_runs.proofs.ServedSends.{to_others, reaches_all, reaches_only}
 use Rattle.calm_runs.proofs.ServedVotes.{IsBegun, kinds_posted, begins as begins_round}
 use Rattle.calm_runs.proofs.ServedWorlds.{Scene, IsTold, Wait, Checks, Puts, stage_of, round_for, Knows, IsUnknown, IsPast, version_at, Holds, IsReading, Kind, MayAsk, Serves, Runs, busy_with, Leading}
@@ -130,7 +130,7 @@ module _ (me : ℕ) (view : List ℕ) (is_peer : IsPeer me) (peers : (q : ℕ) �
     pub made : (seq round : ℕ) (t : CallTable) (runs : Option (List ℕ × Wait me view)) (g : Held) (out : Out) (ms : List Note) (m : List Entry) → IsWhole g m → Now seq round t.rows g (with_map me m maps) (busy_with me view runs)
         → ((keep : Keeping) → Runs me view n (F seq round t) g.stores (moved me (leads (accepted me view) (F seq round t) keep) g out ms v) runs) → AllKinds (F seq round t) runs (sent out) → MovesTo (F seq round t) g out ms
     made seq round t runs g out ms m whole holds_so standing kinds = λ keep grown. record {
-      mail = is_mail_all (map (frame_from me) out.sends) base base_mail;
+      mail = posted_mail (map (frame_from me) out.sends) base base_mail;
       l = F seq round t;
       fact = refl;
       self = refl;
@@ -212,14 +212,14 @@ module _ (me : ℕ) (view : List ℕ) (is_peer : IsPeer me) (peers : (q : ℕ) �
         → AllKinds l runs (sent (told out (to_others me view peers message) given))
     kinds_after l runs round out message given kinds le not may =
         subst (λ (m : Mail). AllKinds l runs m) (sym (sent_both me out.sends (to_others me view peers message) base))
-        (kinds_posted (Lingers round) (Kind me view n l runs) (sent out) (map (frame_from me) (to_others me view peers message)) (is_mail_all (map (frame_from me) out.sends) base base_mail) kinds
+        (kinds_posted (Lingers round) (Kind me view n l runs) (sent out) (map (frame_from me) (to_others me view peers message)) (posted_mail (map (frame_from me) out.sends) base base_mail) kinds
         (λ f lingers. lingers l runs le not) (λ f is. let it = reaches_only me view peers message f is in inl (record { to = it.to; other = it.other; message = message; is = it.is; may = may })))
 
     -- each other member is asked in a new round
     pub way_after : (r : Round) (out : Out) (given : List AnswerOut) (votes : ℕ → Bool) (q : ℕ) → r.leader ≡ me → IsOther me view q → IsUnderWay r (λ k. true) (sent (told out (to_others me view peers r.ask) given)) votes q
     way_after r out given votes q leads_it other =
         subst (λ (m : Mail). IsUnderWay r (λ k. true) m votes q) (sym (sent_both me out.sends (to_others me view peers r.ask) base))
-        (begins r (λ k. true) (map (frame_from me) (to_others me view peers r.ask)) (sent out) votes q (is_mail_all (map (frame_from me) out.sends) base base_mail) refl
+        (begins r (λ k. true) (map (frame_from me) (to_others me view peers r.ask)) (sent out) votes q (posted_mail (map (frame_from me) out.sends) base base_mail) refl
         (subst (λ (p : ℕ). (let f : Frame = record { from = p; to = q; message = r.ask } in f) ∈ map (frame_from me) (to_others me view peers r.ask)) (sym leads_it) (reaches_all me view peers r.ask q other)))
 
     -- ## How the rules of the call end

@@ -19,12 +19,13 @@ use Rattle.wire_frames.specs.declared.frame.Frame.{Frame}
 use Rattle.wire_frames.specs.declared.message.Message.{Message}
 use Rattle.call_refinement.specs.WorldSpec.{Up, Run, place_of, frame_from}
 use Rattle.call_refinement.proofs.ChangedNodes.{set_other}
+use Rattle.call_refinement.proofs.WorldSpec.{posted_mail}
 use Rattle.calm_steps.proofs.Keeping.{Keeping, Standing}
 use Rattle.calm_steps.proofs.CandidateSteps.{accepted}
 use Rattle.calm_runs.proofs.UnderWay.{Round, IsUnderWay, reply_of}
 use Rattle.calm_runs.proofs.ElectionRequests.{IsQuiet}
 use Rattle.calm_runs.proofs.Elections.{IsOther, rests, asking}
-use Rattle.calm_runs.proofs.Parts.{is_mail_all, places_apart}
+use Rattle.calm_runs.proofs.Parts.{places_apart}
 use Rattle.calm_runs.proofs.Rounds.{delivers}
 use Rattle.calm_runs.proofs.ServedWorlds.{Scene, IsTold, Wait, Reads, Checks, Puts, Leading, Serves, Runs, IsUnknown, IsPast, Kind, round_for, votes_of}
 use Rattle.calm_runs.proofs.Standing.{Stands, stands_here, stands_other}
@@ -112,7 +113,7 @@ module _ (me : ℕ) (view : List ℕ) (is_peer : IsPeer me) (peers : (q : ℕ) �
       pub member_moves : Replies out served.runs → ((e : Entry) → e ∈ now → IsPast me view served.l.seq n.called e) → ((k : List ℕ) → IsUnknown me view served.l.table.rows k → lookup k now ≡ None)
           → ((f : Frame) → f ∈ map (frame_from q) out.sends → Kind me view n served.l served.runs f) → Leading me view n after
       member_moves replies past new sent = record {
-        mail = is_mail_all (map (frame_from q) out.sends) (settled w.mail i) (is_mail_settled w.mail i served.mail);
+        mail = posted_mail (map (frame_from q) out.sends) (settled w.mail i) (is_mail_settled w.mail i served.mail);
         l = served.l;
         fact = served.fact;
         self = served.self;

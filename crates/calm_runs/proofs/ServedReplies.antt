@@ -30,7 +30,7 @@ use Rattle.ens_object.specs.declared.object.Object.{Object}
 use Rattle.calm_steps.specs.HeldStores.{Held, held_with, step_of}
 use Rattle.key_commands.specs.Commands.{verdict_of}
 use Rattle.leader_words.specs.Outs.{rests as rests_out}
-use Rattle.leading_laws.proofs.Lookups.{stage_here, known_other}
+use Rattle.leading_laws.proofs.Lookups.{stage_here, known_other, known_here}
 use Rattle.leading.specs.Leaders.{settled_as, base}
 use Rattle.leading.specs.Puts.{row_35_reply, acknowledged_by}
 use Rattle.leading.specs.Rounds.{row_29_reply, row_33_reply, heard, stood, stood_at, counts}
@@ -68,7 +68,7 @@ use Rattle.calm_runs.proofs.Elections.{IsOther, rests, replying}
 use Rattle.calm_runs.proofs.Rounds.{delivers}
 use Rattle.calm_runs.proofs.ServedLeader.{runs_here, F, at_stage, at_known, Mid, applies_end, answers_now, waits_now, same_maps}
 use Rattle.calm_runs.proofs.ServedMembers.{with_map, at_mail}
-use Rattle.calm_runs.proofs.ServedRows.{known_here, known_stays, ended_rows, staged, learned}
+use Rattle.calm_runs.proofs.ServedRows.{known_stays, ended_rows, staged, learned}
 use Rattle.calm_runs.proofs.ServedVotes.{IsCounted, counted}
 use Rattle.calm_runs.proofs.ServedWorlds.{Scene, IsTold, Wait, Reads, Checks, Puts, stage_of, votes_of, round_for, IsUnknown, version_at, IsFitting, IsApart, Holds, IsReading, IsReadOf, MayAsk, MayReply, Kind, Serves, Runs, busy_with, Leading}
 use Rattle.calm_runs.proofs.Standing.{stands_other}

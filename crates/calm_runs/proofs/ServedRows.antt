@@ -15,7 +15,7 @@ use Rattle.call_table.specs.declared.row.Stage.TheVariants as stages
 use Rattle.call_table.specs.declared.table.CallTable.{CallTable}
 use Rattle.ens_base.proofs.Lists.{bytes_same, bytes_itself}
 use Rattle.ens_base.proofs.Orders.{cmp_equal}
-use Rattle.ens_base.specs.Lists.{◌∈◌, AreDistinct, same_bytes}
+use Rattle.ens_base.specs.Lists.{◌∈◌, same_bytes}
 use Rattle.ens_base.specs.declared.entry.Entry.{Entry}
 use Rattle.ens_base.specs.declared.epoch.Version.{Version}
 use Rattle.ens_object.specs.Objects.{IsObject, object_spelling}
@@ -24,14 +24,13 @@ use Rattle.ens_outside.proofs.MapLaws.{others_after}
 use Rattle.ens_outside.specs.Maps.{value_at}
 use Rattle.calm_steps.specs.HeldStores.{Held, HeldStores}
 use Rattle.kept_objects.specs.Kept.{entry_of}
-use Rattle.leading_laws.proofs.Lookups.{row_here, known_other, stage_here, stage_other}
+use Rattle.leading_laws.proofs.Lookups.{row_here, known_other, stage_here, stage_other, known_here}
 use Rattle.md5.specs.Md5.{md5}
 use Rattle.call_refinement.proofs.RequestRefinement.{lookup_put, in_put}
-use Rattle.call_refinement.proofs.StepRefinement.{images_few}
+use Rattle.call_refinement.proofs.StepRefinement.{images_few, distinct_keys}
 use Rattle.tree_maps.proofs.Names.{md5_run}
-use Rattle.tree_maps.proofs.Orders.{less_not_same}
 use Rattle.tree_maps.proofs.Parts.{ascends-put}
-use Rattle.tree_maps.specs.Entries.{IsBelowAll, Ascends, lookup, put}
+use Rattle.tree_maps.specs.Entries.{Ascends, lookup, put}
 use Rattle.calm_steps.specs.TreeRefinement.{IsWhole}
 use Rattle.calm_steps.proofs.Requests.{HasWritten}
 use Rattle.calm_runs.proofs.ServedMembers.{with_map, each_map}
@@ -39,10 +38,6 @@ use Rattle.calm_runs.proofs.ServedPuts.{Fits}
 use Rattle.calm_runs.proofs.ServedWorlds.{Scene, Knows, IsUnknown, IsPast, Holds, version_at}
 
 -- ## Rows
-
-pub known_here : (key : List ℕ) (known : Known) (rows : Rows) → (row_at key (with_known key known rows)).known ≡ known
-unfolding with_known
-known_here key known rows = ap (λ (row : KeyRow). row.known) (row_here key (record (row_at key rows) { known = known }) rows)
 
 -- a stage changes no knowledge
 pub known_stays : (key k : List ℕ) (stage : Stage) (rows : Rows) → (row_at k (with_stage key stage rows)).known ≡ (row_at k rows).known
@@ -68,15 +63,6 @@ check_here r key (c ∷ checks) = by (nat_cmp r c.0) refl (check_here r key chec
   by Greater order rest = ap (λ (b : Bool). cond b (Some c.1) (find_at (is_at (nat_cmp r)) (insert_entry nat_cmp checks r key))) (ap is_eq order) ∙ rest
 
 -- ## A map has no more entries than keys were called
-
-below_apart : (k : List ℕ) (m : List Entry) → IsBelowAll k m → k ∈ map (λ (e : Entry). e.key) m → ⊥
-below_apart k [] below is = is
-below_apart k (e ∷ m) below (inl same) = less_not_same k e.key below.0 same
-below_apart k (e ∷ m) below (inr more) = below_apart k m below.1 more
-
-distinct_keys : (m : List Entry) → Ascends m → AreDistinct (map (λ (e : Entry). e.key) m)
-distinct_keys [] ascends = tt
-distinct_keys (e ∷ m) ascends = (below_apart e.key m ascends.0, distinct_keys m ascends.1)
 
 -- a key of the map is that of an entry
 keyed_by : (m : List Entry) (k : List ℕ) → k ∈ map (λ (e : Entry). e.key) m → (e : Entry) × (e ∈ m) × (e.key ≡ k)

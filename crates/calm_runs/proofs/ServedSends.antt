@@ -1,7 +1,7 @@
 -- The messages that a leader sends to all other members.
 use Rattle.std.proofs.Common.{◌≡◌, ◌==◌, refl, ap, sym, ◌∙◌, subst, ℕ, Bool, true, false, not, List, [], ◌∷◌, map}
 use Rattle.std.specs.Prelude.{◌≢◌}
-use Rattle.std.proofs.lemmas.Bool.{and_parts, eqb-true, eqb-false, false≢true}
+use Rattle.std.proofs.lemmas.Bool.{and_parts, eqb-false, false≢true}
 use Rattle.ens_base.proofs.Lists.{tested_in, in_tested, in-map}
 use Rattle.ens_base.specs.Lists.{◌∈◌, is_in}
 use Rattle.ens_base.specs.View.{IsPeer}
@@ -14,12 +14,7 @@ use Rattle.wire_frames.specs.declared.message.Message.{Message}
 use Rattle.call_refinement.specs.WorldSpec.{frame_from}
 use Rattle.calm_runs.proofs.Elections.{IsOther, asking}
 use Rattle.calm_runs.proofs.Posting.{going, posted_has, posted_only, told_each, sent_is_posted}
-
-not_itself : (q p : ℕ) → q ≢ p → not (q == p) ≡ true
-not_itself q p other = by (q == p) refl where
-  by : (b : Bool) → (q == p) ≡ b → not b ≡ true
-  by false same = refl
-  by true same = absurd (other (eqb-true q p same))
+use Rattle.calm_runs.proofs.Standing.{not_itself}
 
 module _ (me : ℕ) (view : List ℕ) (peers : (q : ℕ) → q ∈ view → IsPeer q) (message : Message) where
   -- the message to each other member

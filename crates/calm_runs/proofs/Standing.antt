@@ -1,15 +1,14 @@
 -- Where the peers of a calm run stand, and to whom a message to all other members goes.
-use Rattle.std.proofs.Common.{◌≡◌, ◌≤◌, ◌==◌, ◌&&◌, refl, ap, sym, ◌∙◌, subst, arith, ℕ, zero, suc, Bool, true, false, not, List, [], ◌∷◌, map, Option, Some}
+use Rattle.std.proofs.Common.{◌≡◌, ◌≤◌, ◌==◌, ◌&&◌, refl, ap, sym, ◌∙◌, subst, arith, ℕ, Bool, true, false, not, List, [], ◌∷◌, map, Option, Some}
 use Rattle.std.specs.Prelude.{◌≢◌, slice_get}
 use Rattle.std.proofs.lemmas.Bool.{and_parts, eqb-true, eqb-false, false≢true}
-use Rattle.std.proofs.lemmas.List.FromFn.{get_or-map-range_with_len}
 use Rattle.ens_base.proofs.Lists.{tested_in, in_tested}
 use Rattle.ens_base.specs.Lists.{◌∈◌, is_in}
 use Rattle.ens_base.specs.PeerSet.{holds}
 use Rattle.ens_base.specs.View.{IsPeer}
 use Rattle.ens_base.specs.declared.entry.Entry.{Entry}
 use Rattle.calm_steps.specs.HeldStores.{Held, HeldStores, held_with}
-use Rattle.joint_views.specs.Members.{members, those}
+use Rattle.joint_views.specs.Members.{members}
 use Rattle.joint_views.specs.Quorums.{is_member}
 use Rattle.leader_words.specs.declared.out.Outgoing.{Outgoing}
 use Rattle.peer_fact.specs.declared.fact.Fact.{Fact}
@@ -28,6 +27,7 @@ use Rattle.call_refinement.proofs.ChangedNodes.{set_same, set_other}
 use Rattle.calm_steps.proofs.Keeping.{Keeping, Standing}
 use Rattle.calm_steps.proofs.RowsLand.{held_under}
 use Rattle.calm_steps.proofs.TreeCalls.{keeps, serves}
+use Rattle.calm_steps.proofs.PeerPlan.{those_at}
 use Rattle.calm_runs.proofs.Parts.{places_apart}
 use Rattle.calm_runs.proofs.Posting.{frame_sent, posted_only, posted_high, told_each}
 use Rattle.calm_runs.proofs.Worlds.{moved, whole_grows}
@@ -59,12 +59,7 @@ module _ (p : ℕ) (y : Standing) (keep : Keeping) (g : Held) (out : Out) (ms : 
 
 -- ## Messages to all other members
 
--- which peers pass a test
-those_are : (test : ℕ → Bool) (q : ℕ) → IsPeer q → holds (those test) q ≡ test q
-those_are test zero peer = absurd (omega (arith, peer.0))
-those_are test (suc k) peer = get_or-map-range_with_len test 1 31 k (suc k) false (omega (arith, peer.1)) (omega arith)
-
-not_itself : (q p : ℕ) → q ≢ p → not (q == p) ≡ true
+pub not_itself : (q p : ℕ) → q ≢ p → not (q == p) ≡ true
 not_itself q p other = by (q == p) refl where
   by : (b : Bool) → (q == p) ≡ b → not b ≡ true
   by false same = refl
@@ -75,7 +70,7 @@ module _ (me : ℕ) (view : List ℕ) (peers : (q : ℕ) → q ∈ view → IsPe
   IsOther q = (q ∈ view) × (q ≢ me)
 
   others_hold : (q : ℕ) → IsPeer q → holds (others_of me (members (view ∷ []))) q ≡ (is_member (view ∷ []) q && not (q == me))
-  others_hold q peer = those_are (λ p. holds (members (view ∷ [])) p && not (p == me)) q peer ∙ ap (λ b. b && not (q == me)) (those_are (is_member (view ∷ [])) q peer)
+  others_hold q peer = those_at (λ p. holds (members (view ∷ [])) p && not (p == me)) q peer ∙ ap (λ b. b && not (q == me)) (those_at (is_member (view ∷ [])) q peer)
 
   -- each other member gets the message
   pub goes_to_all : (message : Message) (q : ℕ) → IsOther q → (let f : Frame = record { from = me; to = q; message = message } in f) ∈ map (frame_from me) (posted_to (others_of me (members (view ∷ []))) (Some message))

@@ -8,6 +8,7 @@ use Rattle.ens_base.specs.Lists.{◌∈◌}
 use Rattle.network.specs.Mail.{Mail, posted, settled, oldest, is_among, IsMail}
 use Rattle.network.proofs.Flags.{flag_stays}
 use Rattle.network.proofs.MailLaws.{is_mail_posted, is_mail_settled, flag_settled, clear_without_oldest}
+use Rattle.network.proofs.Posting.{last_is}
 use Rattle.call_refinement.specs.WorldSpec.{posted_all}
 use Rattle.call_refinement.proofs.ChangedNodes.{get_push}
 use Rattle.wire_frames.specs.declared.frame.Frame.{Frame}
@@ -21,16 +22,12 @@ get_stays (h ∷ sent) g f (suc n) is = get_stays sent g f n is
 pub waits_posted : (m : Mail) (g f : Frame) → Waits m f → Waits (posted m g) f
 waits_posted m g f w = record { number = w.number; sent = get_stays m.sent g f w.number w.sent; waits = flag_stays m.waits true w.number w.waits }
 
-get_last : (sent : List Frame) (g : Frame) → slice_get (sent ++ g ∷ []) (length sent) ≡ Some g
-get_last [] g = refl
-get_last (h ∷ sent) g = get_last sent g
-
 flag_last : (waits : List Bool) → slice_index_or (waits ++ true ∷ []) (length waits) false ≡ true
 flag_last [] = refl
 flag_last (w ∷ waits) = flag_last waits
 
 pub waits_last : (m : Mail) (g : Frame) → IsMail m → Waits (posted m g) g
-waits_last m g mail = record { number = length m.sent; sent = get_last m.sent g; waits = subst (λ n. slice_index_or (m.waits ++ true ∷ []) n false ≡ true) mail (flag_last m.waits) }
+waits_last m g mail = record { number = length m.sent; sent = last_is m.sent g; waits = subst (λ n. slice_index_or (m.waits ++ true ∷ []) n false ≡ true) mail (flag_last m.waits) }
 
 pub waits_all_posted : (fs : List Frame) (m : Mail) (f : Frame) → Waits m f → Waits (posted_all fs m) f
 waits_all_posted [] m f w = w

@@ -28,11 +28,11 @@ use Rattle.step_plans.specs.Tasks.{named}
 use Rattle.step_plans.specs.declared.tasks.Task.{Task}
 use Rattle.step_plans.specs.declared.tasks.Task.TheVariants as tasks
 use Rattle.tree_refinement.specs.Whole.{HasNoFaults}
+use Rattle.tree_refinement.proofs.PeerPlan.{driven_none}
 use Rattle.wire_frames.specs.declared.message.Message.TheVariants as messages
 use Rattle.phase_rows.specs.declared.phase.PhaseOut.{PhaseOut}
 use Rattle.phase_rows.specs.declared.rules.PhaseRule.{PhaseRule}
 use Rattle.phase_rows.specs.declared.rules.PhaseRule.TheVariants as phase_rules
-use Rattle.calm_steps.proofs.Ends.{driven_none}
 use Rattle.calm_steps.proofs.Keeping.{Keeping}
 use Rattle.calm_steps.proofs.Lands.{Aim, Lands}
 use Rattle.calm_steps.proofs.RowsLand.{with_saved, held_under, IsPlain, lands_row}

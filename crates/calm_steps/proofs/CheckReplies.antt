@@ -1,5 +1,5 @@
 -- A leader hears that a member stands at its epoch, and answers its call once a quorum does.
-use Rattle.std.proofs.Common.{◌≡◌, refl, ap, sym, ◌∙◌, subst, arith, ℕ, suc, ◌-◌, ◌^◌, Bool, true, false, List, [], ◌∷◌, None, Some}
+use Rattle.std.proofs.Common.{◌≡◌, refl, ap, sym, ◌∙◌, subst, arith, ℕ, ◌-◌, ◌^◌, Bool, true, false, List, [], ◌∷◌, None, Some}
 use Rattle.ens_base.specs.Lists.{same_bytes}
 use Rattle.ens_base.specs.PeerSet.{holds}
 use Rattle.ens_base.specs.declared.epoch.Epoch.{Epoch}
@@ -17,6 +17,7 @@ use Rattle.leading.specs.Leaders.{stands, base}
 use Rattle.leading.specs.Rounds.{row_33_reply, counts}
 use Rattle.leading.specs.declared.leader.Leader.{Leader}
 use Rattle.tree_refinement.specs.PeerPlan.{step_of, driven, most_turns, concluded}
+use Rattle.tree_refinement.proofs.PeerPlan.{most_is_some}
 use Rattle.peer_state.specs.declared.event.Event.TheVariants as events
 use Rattle.peer_state.specs.declared.state.State.{State}
 use Rattle.peer_fact.specs.declared.fact.Fact.{Fact}
@@ -36,10 +37,6 @@ use Rattle.calm_steps.proofs.KeyRows.{row_36_ends}
 use Rattle.calm_steps.proofs.Keeping.{Keeping}
 use Rattle.calm_steps.proofs.Lands.{Aim, Lands}
 use Rattle.calm_steps.proofs.Leads.{plain, leads, told, LandsFrom, row_goes, key_goes, rests_there}
-
-pub most_is_some : most_turns ≡ suc (2 ^ 64 - 2)
-unfolding most_turns
-most_is_some = omega arith
 
 -- while a round is open, its votes are no quorum
 pub open_votes : (round : Round) → state_of round ≡ Open → is_quorum (holds round.tally.votes) round.tally.views ≡ false

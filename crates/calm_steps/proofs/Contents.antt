@@ -1,36 +1,19 @@
 -- What a command writes keeps the limits of values.
 use Rattle.std.specs.Prelude.{nat_lt, nat_le, if◌then◌else◌}
-use Rattle.std.proofs.Common.{◌≡◌, ◌<◌, ◌≤◌, ◌^◌, ◌/◌, ◌%◌, ◌+◌, ℕ, zero, suc, ◌==◌, ◌&&◌, Bool, true, false, List, [], ◌∷◌, ◌++◌, length, lit<, lit≤, arith, refl, sym, subst}
+use Rattle.std.proofs.Common.{◌≡◌, ◌≤◌, ◌^◌, ◌+◌, ℕ, ◌==◌, ◌&&◌, Bool, true, false, length, lit≤, arith, refl, sym, subst}
 use Rattle.std.proofs.lemmas.Bool.Decides.{nat_tests}
 use Rattle.std.proofs.lemmas.List.{length-append}
-use Rattle.std.specs.Int.{byte_at, bytes_high_first}
 use Rattle.byteorder.specs.Endian.{big_number}
 use Rattle.ens_base.specs.Epochs.{same_version}
-use Rattle.ens_base.specs.Limits.{IsBytes, IsValue, IsCommand}
+use Rattle.ens_base.specs.Limits.{IsValue, IsCommand}
 use Rattle.ens_base.specs.Lists.{same_bytes}
 use Rattle.ens_base.specs.declared.command.Command.{Command}
 use Rattle.ens_base.specs.declared.command.Command.TheVariants.{Get, PutOnce, Update, Append, Add, Swap, Over, Delete}
+use Rattle.ens_base.proofs.ByteLists.{bytes_both, number_bytes}
 use Rattle.ens_object.specs.Objects.{IsContent}
 use Rattle.register_model.specs.Registers.{Outcome, Keeps, Writes, outcome}
 use Rattle.register_model.specs.declared.register.Register.{Register}
 use Rattle.register_model.specs.declared.register.Register.TheVariants.{Absent, Present}
-
-bytes_both : (xs ys : List ℕ) → IsBytes xs → IsBytes ys → IsBytes (xs ++ ys)
-bytes_both [] ys a b i = b i
-bytes_both (x ∷ xs) ys a b zero = a 0
-bytes_both (x ∷ xs) ys a b (suc i) = bytes_both xs ys (λ j. a (suc j)) b i
-
-is_byte : (m : ℕ) → m % 256 < 256
-is_byte m = omega arith
-
-byte_small : (k n : ℕ) → byte_at k n < 256
-byte_small zero n = is_byte n
-byte_small (suc k) n = is_byte (n / 256 ^ suc k)
-
-number_bytes : (k n : ℕ) → IsBytes (bytes_high_first k n)
-number_bytes zero n i = lit< tt
-number_bytes (suc k) n zero = byte_small k n
-number_bytes (suc k) n (suc i) = number_bytes k n i
 
 -- the value of a register keeps its limits
 abbrev pub RegisterFits : Register → Type 0

@@ -1,7 +1,8 @@
 -- The end of a step of a calm run: no task is left, and no epoch ends.
-use Rattle.std.proofs.Common.{◌≡◌, refl, ap, ◌∙◌, ℕ, zero, suc, List, []}
+use Rattle.std.proofs.Common.{◌≡◌, ap, ◌∙◌, ℕ, List, []}
 use Rattle.std.proofs.lemmas.List.{append-nil}
 use Rattle.tree_refinement.specs.PeerPlan.{row_done, driven, most_turns, concluded}
+use Rattle.tree_refinement.proofs.PeerPlan.{driven_none}
 use Rattle.peer_state.specs.Rows.{while_26}
 use Rattle.peer_state.specs.declared.state.ChangeState.TheVariants.{Settled}
 use Rattle.peer_state.specs.declared.state.Phase.{Phase}
@@ -11,11 +12,6 @@ use Rattle.phase_rows.specs.Rows.{silent}
 use Rattle.step_plans.specs.Plans.{Done, Out, Rest}
 use Rattle.step_plans.specs.declared.tasks.Task.{Task}
 use Rattle.phase_rows.specs.declared.phase.Then.TheVariants as thens
-
-pub driven_none : (me n : ℕ) (x : State) (out : Out) (next : Rest State (List Task)) → driven me n [] x out next ≡ next [] x out
-unfolding driven
-driven_none me zero x out next = refl
-driven_none me (suc n) x out next = refl
 
 -- no epoch is ending
 abbrev pub IsSettled : Phase → Type 0

@@ -10,6 +10,7 @@ use Rattle.leader_words.specs.declared.out.Own.{Own}
 use Rattle.leading.specs.Rules.{lead_row}
 use Rattle.leading.specs.declared.leader.Leader.{Leader}
 use Rattle.tree_refinement.specs.PeerPlan.{lead, lead_done, owned, own_key, followed_up, driven}
+use Rattle.tree_refinement.proofs.PeerPlan.{driven_none}
 use Rattle.peer_state.specs.declared.state.ChangeState.TheVariants.{Settled}
 use Rattle.peer_state.specs.declared.state.Phase.TheVariants as phases
 use Rattle.peer_state.specs.declared.state.State.{State}
@@ -24,7 +25,6 @@ use Rattle.phase_rows.specs.declared.phase.Seen.TheVariants as seens
 use Rattle.phase_rows.specs.declared.phase.Then.{Then}
 use Rattle.phase_rows.specs.declared.phase.Then.TheVariants as thens
 use Rattle.phase_rows.specs.declared.rules.KeyRule.{KeyRule}
-use Rattle.calm_steps.proofs.Ends.{driven_none}
 use Rattle.calm_steps.proofs.Keeping.{Keeping, Standing}
 use Rattle.calm_steps.proofs.Lands.{Aim, Lands}
 

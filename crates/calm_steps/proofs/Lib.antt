@@ -18,3 +18,4 @@ pub mod Backends
 pub mod CheckReplies
 pub mod Verdicts
 pub mod Contents
+pub mod PeerPlan

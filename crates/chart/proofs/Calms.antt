@@ -4,9 +4,9 @@ use Rattle.std.specs.Prelude.{Bool}
 use Rattle.std.proofs.lemmas.List.{append-nil, append_assoc}
 use Rattle.network.specs.Mail.{is_among, oldest, most_messages}
 use Rattle.world_spec.specs.Runs.{Run, delivered, unhashed}
-use Rattle.world_spec.proofs.Turns.{one_more}
 use Rattle.chart.specs.Lines.{delivery_lines, calm_on, calm_lines}
 use Rattle.world_model.proofs.Loops.{minus_zero, none_left}
+use Rattle.held_stores.proofs.PeerPlan.{one_turn}
 
 no_turn : (peers : List Bool) (w : Run) → calm_lines peers 0 w ≡ []
 unfolding calm_lines
@@ -28,13 +28,13 @@ pub shown_next : (peers : List Bool) (i : ℕ) (old lines more : List (List ℕ)
 shown_next peers i old lines more first now next k below is shown added did =
     let left = calm_lines peers (most_messages - (i + 1)) (unhashed (delivered k now)) in
     let unfolded : calm_lines peers (most_messages - i) now ≡ delivery_lines k now ++ left =
-    ap (λ j. calm_lines peers j now) (one_more most_messages i below) ∙ (turn peers (most_messages - (i + 1)) now ∙ rw (← is) refl) in
+    ap (λ j. calm_lines peers j now) (one_turn most_messages i below) ∙ (turn peers (most_messages - (i + 1)) now ∙ rw (← is) refl) in
     rw added (rw did (append_assoc lines (delivery_lines k now) left ∙ (ap (λ l. lines ++ l) (sym unfolded) ∙ shown)))
 
 pub shown_ends : (peers : List Bool) (i : ℕ) (old lines : List (List ℕ)) (first now : Run) → i < most_messages → None ≡ oldest (is_among peers) now.mail → IsShown peers i old first lines now
     → lines ≡ old ++ calm_lines peers most_messages first
 shown_ends peers i old lines first now below is shown =
-    let unfolded : calm_lines peers (most_messages - i) now ≡ [] = ap (λ j. calm_lines peers j now) (one_more most_messages i below) ∙ (turn peers (most_messages - (i + 1)) now ∙ rw (← is) refl) in
+    let unfolded : calm_lines peers (most_messages - i) now ≡ [] = ap (λ j. calm_lines peers j now) (one_turn most_messages i below) ∙ (turn peers (most_messages - (i + 1)) now ∙ rw (← is) refl) in
     sym (append-nil lines) ∙ (ap (λ l. lines ++ l) (sym unfolded) ∙ shown)
 
 pub shown_last : (peers : List Bool) (i : ℕ) (old lines : List (List ℕ)) (first now : Run) → most_messages ≤ i → IsShown peers i old first lines now → lines ≡ old ++ calm_lines peers most_messages first

@@ -4,14 +4,14 @@ use Rattle.std.proofs.lemmas.List.{append_assoc, drop-map, drop_more}
 use Rattle.std.specs.Prelude.{true, false}
 use Rattle.ens_base.specs.Lists.{same_bytes}
 use Rattle.chart.specs.Text.{peer_line, peers_text, shown_after, shown_line}
-use Rattle.world_spec.proofs.Turns.{one_more}
+use Rattle.held_stores.proofs.PeerPlan.{one_turn}
 
 -- one more peer has been written
 pub peers_next : (old new : List ℕ) (below peers : ℕ) (whole : List ℕ) → below < peers → old ++ peers_text (below + 1) (peers - below) ≡ whole → new ≡ old ++ peer_line (below + 1)
     → new ++ peers_text (below + 1 + 1) (peers - (below + 1)) ≡ whole
 peers_next old new below peers whole less shown added =
     let rest = peers_text (below + 1 + 1) (peers - (below + 1)) in
-    let unfolded : peers_text (below + 1) (peers - below) ≡ peer_line (below + 1) ++ rest = ap (λ k. peers_text (below + 1) k) (one_more peers below less) in
+    let unfolded : peers_text (below + 1) (peers - below) ≡ peer_line (below + 1) ++ rest = ap (λ k. peers_text (below + 1) k) (one_turn peers below less) in
     rw added (append_assoc old (peer_line (below + 1)) rest ∙ (ap (λ l. old ++ l) (sym unfolded) ∙ shown))
 
 -- the lines from this place on

@@ -2,8 +2,8 @@
 use Rattle.std.specs.Prelude.{IsErrAnd, Option, None, Some, map, if◌then◌else◌}
 use Rattle.std.proofs.Common.{◌≡◌, ◌≤◌, ◌<◌, ◌∙◌, ◌+◌, ap, sym, subst, refl, ◌-◌, ◌^◌, ℕ, zero, suc, List, [], ◌∷◌, ◌++◌, length, take, drop, get_or, Result, Ok, Err, append_assoc, append-nil, arith, length-drop}
 use Rattle.std.proofs.lemmas.List.{map-append, length-append, take_all}
-use Rattle.ens_base.specs.Causes.{Rose}
 use Rattle.ens_base.specs.Lists.{same_bytes}
+use Rattle.ens_base.proofs.Causes.{rose_later}
 use Rattle.ens_outside.specs.Links.{LinkCounts, Sends}
 use Rattle.ens_outside.specs.Told.{StaysTold}
 use Rattle.ens_outside.specs.declared.errors.LinkError.{LinkError}
@@ -54,9 +54,6 @@ adds_on : (xs ys : List Frame) (number : ℕ) (a b c : FrameIndex) → AddsTo xs
 adds_on xs ys number a b c first second m is many has =
     let more : length (posted_all xs m).sent + 1 ≡ number + length xs = omega (arith, many, ap (λ (l : List Frame). length l) (sent_after xs m), length-append m.sent xs) in
     subst (Indexes c) (sym (posted_more xs ys m)) (second (posted_all xs m) (posted_mail xs m is) more (first m is many has))
-
-later_rose : (a b c : ℕ) → a ≤ b → Rose b c → Rose a c
-later_rose a b c first rose = omega (arith, first, rose)
 
 -- ---- the messages of a slice, up to one of them
 
@@ -157,7 +154,7 @@ module _ {L : Type 0} (sent : L → Option (List (ℕ × List ℕ))) (given : L 
     sends = both_sent xs second.front a b c first.sends second.sends;
     looked = both_none a b c first.looked second.looked;
     later = omega (arith, first.later, second.later);
-    cause = λ same. later_rose (faults a) (faults b) (faults c) first.later (second.cause same);
+    cause = λ same. rose_later (faults a) (faults b) (faults c) first.later (second.cause same);
   }
 
   -- one more message of a slice was handed over

@@ -1,8 +1,7 @@
 -- Why a script is refused, by the errors of its lines.
-use Rattle.std.proofs.Common.{◌≡◌, ◌∙◌, ◌==◌, ◌+◌, ◌<◌, ℕ, Bool, true, false, List, [], ◌∷◌, ◌++◌, length, length-append, Option, Result, Ok, Err, refl, sym, ap, subst, arith}
+use Rattle.std.proofs.Common.{◌≡◌, ◌∙◌, ◌==◌, ◌+◌, ◌<◌, ℕ, Bool, true, false, List, [], ◌∷◌, ◌++◌, length, length-append, Option, Result, Ok, Err, refl, sym, ap, subst}
 use Rattle.std.specs.Prelude.{if◌then◌else◌}
 use Rattle.std.specs.Io.KnownBytes.{Consumes}
-use Rattle.std.proofs.lemmas.Bool.Decides.{nat_tests}
 use Rattle.ens_base.specs.Results.{◌>>=◌}
 use Rattle.ens_outside.specs.Lines.{BeginsLong, HasNoFeed}
 use Rattle.ens_outside.specs.declared.lines.NextError.{NextError}
@@ -15,16 +14,12 @@ use Rattle.schedule_text.specs.Errors.{at_line}
 use Rattle.schedule_text.specs.Reading.{bounded, most_lines}
 use Rattle.schedule_text.specs.declared.error.ScheduleError.{ScheduleError}
 use Rattle.schedule_text.specs.declared.error.ScheduleError.TheVariants.{Bad, Lines, Memory}
-use Rattle.schedule_text.proofs.SchedulesRead.{at_line_ok}
+use Rattle.schedule_text.proofs.SchedulesRead.{at_line_ok, past_lines, last_is_tested, from_bind}
 use Rattle.cluster_script.specs.Reading.{Refuses, TakesLine, of_next, of_schedule}
 use Rattle.cluster_script.specs.Scripts.{ended, is_repeated, line_of, next_line, with_line}
 use Rattle.cluster_script.specs.declared.line.ScriptLine.{ScriptLine}
 use Rattle.cluster_script.specs.declared.read.ReadError.{ReadError}
 use Rattle.cluster_script.specs.declared.read.ReadError.TheVariants as read
-
-pub from_bind : {A B G : Type 0} (r : Result A Cause) (f : A → Result B Cause) (q : B) → (r >>= f) ≡ Ok q → ((x : A) → f x ≡ Ok q → G) → G
-from_bind (Ok x) f q h go = go x h
-from_bind (Err c) f q h go = absurd cc
 
 pub from_test : {A : Type 0} (b : Bool) (r : Result A ScheduleError) (q : A) → (if b then Err Lines else r) ≡ Ok q → r ≡ Ok q
 from_test true r q h = absurd cc
@@ -61,19 +56,11 @@ module _ (peers : ℕ) where
       added line true e = absurd cc
       added line false e = let is : old ++ line ∷ [] ≡ new = cc in sym (ap (λ (l : List ScriptLine). length l) is) ∙ length-append old (line ∷ [])
 
--- line 200,001
-by_true : {A : Type 0} (b : Bool) (r : Result A ScheduleError) → b ≡ true → (if b then Err Lines else r) ≡ Err Lines
-by_true true r h = refl
-by_true false r h = absurd cc
-
-is_last : (n : ℕ) → n ≡ 200000 → (n == most_lines) ≡ true
-is_last n e = grind (arith, nat_tests, e)
-
 pub last_line : (peers : ℕ) (lines : List ScriptLine) → length lines ≡ 200000 → (text : List ℕ) → next_line peers lines text ≡ Err Lines
-last_line peers lines last text = by_true (length lines == most_lines) (at_line (length lines + 1) (line_of peers text >>= with_line lines)) (is_last (length lines) last)
+last_line peers lines last text = past_lines (length lines == most_lines) (at_line (length lines + 1) (line_of peers text >>= with_line lines)) (last_is_tested (length lines) last)
 
 pub last_rest : (lines : List ScriptLine) → length lines ≡ 200000 → (byte : ℕ) (rest : List ℕ) → ended lines (byte ∷ rest) ≡ Err Lines
-last_rest lines last byte rest = by_true (length lines == most_lines) (at_line (length lines + 1) (bounded (byte ∷ rest) (Err Unfinished))) (is_last (length lines) last)
+last_rest lines last byte rest = past_lines (length lines == most_lines) (at_line (length lines + 1) (bounded (byte ∷ rest) (Err Unfinished))) (last_is_tested (length lines) last)
 
 -- an error of the source is passed on as one
 pub next_failed : {T U : Type 0} (e : NextError) → ◌≡◌ {A = Result T ReadError} (Err (of_next e)) (Err read.Failed) → ◌≡◌ {A = Result U NextError} (Err e) (Err next.Failed)

@@ -1,6 +1,6 @@
 -- What a recorded event makes of the messages: it may deliver one, and then sends some.
-use Rattle.std.proofs.Common.{◌≡◌, ◌<◌, ◌+◌, ◌-◌, ◌∙◌, ℕ, zero, suc, nat_lt, Bool, true, false, if◌then◌else◌, List, [], ◌∷◌, ◌++◌, length, map, Option, None, Some, refl, sym, ap, append_assoc, append-nil, arith, slice_get}
-use Rattle.network.proofs.MailLaws.{is_mail_posted, is_mail_settled}
+use Rattle.std.proofs.Common.{◌≡◌, ◌<◌, ◌+◌, ◌-◌, ◌∙◌, ℕ, zero, suc, nat_lt, Bool, true, false, if◌then◌else◌, List, [], ◌∷◌, ◌++◌, length, map, Option, None, Some, refl, sym, ap, arith, slice_get}
+use Rattle.network.proofs.MailLaws.{is_mail_settled}
 use Rattle.network.specs.Mail.{IsMail, Mail, posted, settled}
 use Rattle.peer_state.specs.declared.event.Event.{Event}
 use Rattle.peer_state.specs.declared.event.Event.TheVariants as events
@@ -12,6 +12,7 @@ use Rattle.world_spec.specs.Nodes.{Node, started, stopped, taken}
 use Rattle.world_spec.specs.Runs.{Run, mode_at, frame_from, place_of, posted_all, received, without_waiting, received_if, stepped, stepped_at, ticked}
 use Rattle.world_spec.proofs.Growth.{changed_mail}
 use Rattle.cluster_spec.specs.Messages.{MayBeRecorded, mail_before}
+pub use Rattle.world_spec.proofs.Growth.{posted_mail, sent_after}
 
 -- messages are sent, one after another
 pub record Posts (m n : Mail) : Type 0 where
@@ -69,14 +70,6 @@ applied_posts peers (Start peer) w may = posts_none w.mail (applied (Start peer)
 applied_posts peers event w may = absurd may.0
 
 -- ---- the messages that were sent
-
-pub sent_after : (frames : List Frame) (m : Mail) → (posted_all frames m).sent ≡ m.sent ++ frames
-sent_after [] m = sym (append-nil m.sent)
-sent_after (f ∷ frames) m = sent_after frames (posted m f) ∙ append_assoc m.sent (f ∷ []) frames
-
-pub posted_mail : (frames : List Frame) (m : Mail) → IsMail m → IsMail (posted_all frames m)
-posted_mail [] m is = is
-posted_mail (f ∷ frames) m is = posted_mail frames (posted m f) (is_mail_posted m f is)
 
 pub sent_before : (event : ScheduleEvent) (m : Mail) → (mail_before event m).sent ≡ m.sent
 sent_before (Deliver message) m = refl

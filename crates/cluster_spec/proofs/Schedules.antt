@@ -1,7 +1,8 @@
 -- What was recorded is a schedule.
-use Rattle.std.proofs.Common.{◌≡◌, ◌≤◌, ◌+◌, ◌∙◌, ℕ, List, [], ◌∷◌, ◌++◌, length, Option, None, refl, sym, ap, subst, inl, inr}
-use Rattle.ens_base.specs.Lists.{AreDistinct, ◌∈◌}
+use Rattle.std.proofs.Common.{◌≡◌, ◌≤◌, ◌+◌, ◌∙◌, ℕ, List, [], ◌∷◌, ◌++◌, length, Option, None, refl, sym, ap, subst}
+use Rattle.ens_base.specs.Lists.{AreDistinct}
 use Rattle.ens_base.specs.View.{IsView}
+use Rattle.ens_base.proofs.Lists.{in_left}
 use Rattle.cluster_script.specs.Scripts.{IsScript, script_events}
 use Rattle.cluster_script.specs.declared.line.ScriptLine.{ScriptLine}
 use Rattle.cluster_script.specs.declared.line.ScriptLine.TheVariants.{Event, Turn}
@@ -10,6 +11,7 @@ use Rattle.schedule_text.specs.Spelling.{AllMayStand, IsSchedule, call_ids}
 use Rattle.schedule_text.specs.declared.event.ScheduleEvent.{ScheduleEvent}
 use Rattle.schedule_text.specs.declared.event.ScheduleEvent.TheVariants.{Call, Deliver}
 use Rattle.schedule_text.specs.declared.schedule.Schedule.{Schedule}
+use Rattle.schedule_text.proofs.Ids.{call_ids-append}
 use Rattle.schedule_words.specs.Spelling.{AreMembers}
 use Rattle.cluster_spec.specs.Messages.{AllRecorded}
 use Rattle.cluster_spec.specs.Recordings.{Follows, IsPart, Recording, nothing_recorded, recorded_form, without_deliveries}
@@ -27,22 +29,9 @@ ids_kept (event ∷ events) = by event (ids_kept events)
     by (Deliver message) same = same
     by event same = same
 
-ids_of_both : (xs ys : List ScheduleEvent) → call_ids (xs ++ ys) ≡ call_ids xs ++ call_ids ys
-ids_of_both [] ys = refl
-ids_of_both (event ∷ xs) ys = by event (ids_of_both xs ys)
-  where
-    by : (event : ScheduleEvent) → call_ids (xs ++ ys) ≡ call_ids xs ++ call_ids ys → call_ids (event ∷ (xs ++ ys)) ≡ call_ids (event ∷ xs) ++ call_ids ys
-    by (Call peer id key command) same = ap (λ (l : List ℕ). id ∷ l) same
-    by event same = same
-
-in_front : {A : Type 0} (x : A) (xs ys : List A) → x ∈ xs → x ∈ (xs ++ ys)
-in_front x (y ∷ xs) ys (inl e) = inl e
-in_front x (y ∷ xs) ys (inr m) = inr (in_front x xs ys m)
-in_front x [] ys m = absurd m
-
 distinct_front : {A : Type 0} (xs ys : List A) → AreDistinct (xs ++ ys) → AreDistinct xs
 distinct_front [] ys d = tt
-distinct_front (x ∷ xs) ys d = ((λ m. d.0 (in_front x xs ys m)), distinct_front xs ys d.1)
+distinct_front (x ∷ xs) ys d = ((λ m. d.0 (in_left xs ys x m)), distinct_front xs ys d.1)
 
 -- the events of a part are the first of the script
 part_events : (part script : List ScriptLine) → IsPart part script → (more : List ScheduleEvent) × (script_events script ≡ script_events part ++ more)
@@ -75,7 +64,7 @@ module _ (peers : ℕ) (view : List ℕ) (script part : List ScriptLine) (looks 
   distinct : AreDistinct (call_ids r.events)
   distinct =
       let front = part_events part script is_part in
-      let whole : call_ids (script_events script) ≡ call_ids (script_events part) ++ call_ids front.0 = ap call_ids front.1 ∙ ids_of_both (script_events part) front.0 in
+      let whole : call_ids (script_events script) ≡ call_ids (script_events part) ++ call_ids front.0 = ap call_ids front.1 ∙ call_ids-append (script_events part) front.0 in
       subst AreDistinct (sym same_ids) (distinct_front (call_ids (script_events part)) (call_ids front.0) (subst AreDistinct whole is.distinct))
 
   pub recorded_is : IsSchedule schedule

@@ -21,9 +21,10 @@ use Rattle.wire_frames.specs.declared.message.Message.TheVariants as messages
 use Rattle.phase_rows.specs.declared.phase.PhaseOut.{PhaseOut}
 use Rattle.phase_rows.specs.declared.phase.Then.{Then}
 use Rattle.phase_rows.specs.declared.phase.Then.TheVariants as thens
+use Rattle.phase_rows.proofs.Epochs.{same_epochs}
 use Rattle.election_refinement.proofs.Elections.{not_new}
 use Rattle.election_refinement.proofs.Keeps.{keeps_both, raise_keeps, accept_keeps, adopt_keeps, first_keeps, second_keeps}
-use Rattle.election_refinement.proofs.Numbers.{same_epochs, other_number, not_below_number}
+use Rattle.election_refinement.proofs.Numbers.{other_number, not_below_number}
 use Rattle.election_refinement.proofs.Quiet.{refuses}
 use Rattle.election_refinement.proofs.Reaching.{Course, reaches_safe, raise_reaches, adopt_reaches}
 use Rattle.election_refinement.proofs.Rows.{Fits, Goes, runs_on, unmoved, enters, enters_alone}

@@ -32,9 +32,10 @@ use Rattle.wire_frames.specs.declared.message.Message.TheVariants as messages
 use Rattle.phase_rows.specs.declared.phase.PhaseOut.{PhaseOut}
 use Rattle.phase_rows.specs.declared.phase.Then.TheVariants as thens
 use Rattle.phase_rows.specs.declared.rules.PhaseRule.TheVariants as phase_rules
+use Rattle.phase_rows.proofs.Epochs.{same_epochs}
 use Rattle.election_refinement.proofs.Keeps.{keeps_both, elect_keeps, accept_keeps, known_keeps, first_keeps, changed_of}
 use Rattle.election_refinement.specs.Keeps.{Keeps}
-use Rattle.election_refinement.proofs.Numbers.{proposer_of-number, same_epochs, newer_place, not_newer_place, place_epoch, place_same, place_trans}
+use Rattle.election_refinement.proofs.Numbers.{proposer_of-number, newer_place, not_newer_place, place_epoch, place_same, place_trans}
 use Rattle.election_refinement.proofs.Reaching.{Course, Reaches, reaches_sound, elect_reaches}
 use Rattle.election_refinement.proofs.Rows.{Fits, Goes, none_runs, unmoved, enters, quiet, follows, rests_in, names}
 use Rattle.election_refinement.proofs.Saving.{accepted_fits}

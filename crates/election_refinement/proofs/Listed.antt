@@ -58,9 +58,9 @@ use Rattle.phase_rows.specs.declared.phase.Then.{Then}
 use Rattle.phase_rows.specs.declared.phase.Then.TheVariants as thens
 use Rattle.phase_rows.specs.declared.rules.PhaseRule.{PhaseRule}
 use Rattle.phase_rows.specs.declared.rules.PhaseRule.TheVariants as phase_rules
+use Rattle.phase_rows.proofs.Epochs.{same_epochs}
 use Rattle.election_refinement.proofs.Calls.{tick_stays}
 use Rattle.election_refinement.proofs.Elections.{starts_either}
-use Rattle.election_refinement.proofs.Numbers.{same_epochs}
 use Rattle.election_refinement.proofs.Rows.{settled}
 use Rattle.election_refinement.proofs.Sets.{nobody_then}
 use Rattle.election_refinement.proofs.Tests.{by_test}

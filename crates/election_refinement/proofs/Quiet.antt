@@ -33,7 +33,7 @@ use Rattle.wire_frames.specs.declared.message.NackCause.TheVariants as causes
 use Rattle.phase_rows.specs.declared.phase.PhaseOut.{PhaseOut}
 use Rattle.phase_rows.specs.declared.phase.Then.{Then}
 use Rattle.phase_rows.specs.declared.rules.PhaseRule.TheVariants as phase_rules
-use Rattle.election_refinement.proofs.Numbers.{same_epochs}
+use Rattle.phase_rows.proofs.Epochs.{same_epochs}
 use Rattle.election_refinement.proofs.Reaching.{Course, reaches_safe}
 use Rattle.election_refinement.proofs.Rows.{Fits, Goes, unmoved, enters_alone, quiet, follows, rests_in, names}
 use Rattle.election_refinement.proofs.Sets.{joined_then}

@@ -1,6 +1,6 @@
 -- Sets of peers, and messages to them.
 use Rattle.std.proofs.Common.{◌≡◌, ℕ, zero, suc, ◌≤◌, ◌+◌, Bool, true, false, ◌==◌, if◌then◌else◌, eqb-true, List, [], ◌∷◌, Option, Some, None, arith, refl, sym, ◌∙◌, subst}
-use Rattle.std.specs.Prelude.{All, replicate, slice_index_or}
+use Rattle.std.specs.Prelude.{All}
 use Rattle.std.proofs.lemmas.Bool.{eqb-false, false≢true}
 use Rattle.std.proofs.lemmas.List.{get_or-set_other}
 use Rattle.std.proofs.lemmas.List.Elements.{All-nil, All-cons, All-append}
@@ -12,11 +12,7 @@ use Rattle.phase_rows.specs.Peers.{nobody, joined, alone}
 use Rattle.wire_frames.specs.declared.message.Message.{Message}
 use Rattle.election_refinement.proofs.Tests.{by_test}
 use Rattle.election_refinement.specs.Refinement.{MessageHolds, SendHolds}
-
-none_held : (n q : ℕ) → slice_index_or (replicate n false) q false ≡ false
-none_held zero q = refl
-none_held (suc n) zero = refl
-none_held (suc n) (suc q) = none_held n q
+use Rattle.joint_views.proofs.Sets.{no_flag}
 
 -- what holds of a peer and of all members of a set holds of all members once the peer joins
 pub joined_then : (P : ℕ → Type 0) (peer : ℕ) (set : List Bool) → P peer → ((q : ℕ) → holds set q ≡ true → P q) → (q : ℕ) → holds (joined peer set) q ≡ true → P q
@@ -27,7 +23,7 @@ joined_then P peer set here old q h = by_same (peer == q) refl
     by_same false e = old q (sym (get_or-set_other set peer q true false (λ s. eqb-false peer q e (sym s))) ∙ h)
 
 pub nobody_then : (P : ℕ → Type 0) (q : ℕ) → holds nobody q ≡ true → P q
-nobody_then P q h = absurd (false≢true (sym (none_held 32 q) ∙ h))
+nobody_then P q h = absurd (false≢true (sym (no_flag 32 q) ∙ h))
 
 pub alone_then : (P : ℕ → Type 0) (peer : ℕ) → P peer → (q : ℕ) → holds (alone peer) q ≡ true → P q
 alone_then P peer here = joined_then P peer nobody here (nobody_then P)

@@ -1,13 +1,14 @@
 -- What a job prints is what the program prints.
 use Rattle.std.proofs.Common.{◌≡◌, ℕ, true, false, List, Option, Result, Ok, Err, sym, ap, subst, ◌∙◌}
 use Rattle.ens_base.specs.declared.status.Status.{Status}
+use Rattle.ens_base.proofs.Statuses.{memory_not_done, memory_no_fault}
 use Rattle.ens_words.specs.Forms.{AskFor, Reads}
 use Rattle.ens_words.specs.declared.job.Job.{Job}
 use Rattle.ens_words.specs.declared.job.Job.TheVariants.{Replay, Peer, Cluster, Audit, Backup, Check, Restore, Root, Generate}
 use Rattle.ens_words.specs.declared.job.WordsError.TheVariants.{Usage}
 use Rattle.ens_words.proofs.Exactly.{job_back}
 use Rattle.ens_words.specs.Reading.{job_of}
-use Rattle.backup_job.proofs.Completing.{memory_read as check_memory_read, usage_read as check_usage_read, at_usage, fault_at_usage, at_memory, fault_at_memory}
+use Rattle.backup_job.proofs.Completing.{memory_read as check_memory_read, usage_read as check_usage_read, at_usage, fault_at_usage}
 use Rattle.backup_job.specs.Printed.{HasRead as HasReadBackup}
 use Rattle.ensemble_root.proofs.Completing.{memory_read as root_memory_read, usage_read as root_usage_read}
 use Rattle.ensemble_root.specs.Jobs.{HasRead as HasReadRoot}
@@ -82,7 +83,7 @@ usage_did_read (Generate number calls summary) source before now = tt
 
 pub memory_did_read : (job : Job) (source : Option (List ℕ)) (before now : ℕ) → DidRead job source source before now Status.Memory
 memory_did_read Replay source before now = memory_read source before now
-memory_did_read Audit source before now = record { end = λ e. absurd (at_memory e); fault = λ e. absurd (fault_at_memory e); cut = λ e. absurd (fault_at_memory e) }
+memory_did_read Audit source before now = record { end = λ e. absurd (memory_not_done e); fault = λ e. absurd (memory_no_fault e); cut = λ e. absurd (memory_no_fault e) }
 memory_did_read Backup source before now = tt
 memory_did_read Check source before now = check_memory_read source before now
 memory_did_read Restore source before now = check_memory_read source before now

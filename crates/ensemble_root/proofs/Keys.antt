@@ -9,7 +9,7 @@ use Rattle.std.proofs.lemmas.Bool.Decides.{nat_tests}
 use Rattle.std.proofs.lemmas.Cmp.{nat_cmp_total}
 use Rattle.std.proofs.lemmas.Map.Entries.{btree_map_get_place, place_from_lookup}
 use Rattle.std.proofs.lemmas.Bool.{eqb-true}
-use Rattle.ens_base.proofs.Lists.{bytes_itself, bytes_same, in-map}
+use Rattle.ens_base.proofs.Lists.{bytes_itself, bytes_same, in-map, from_map}
 use Rattle.ens_base.specs.Lists.{◌∈◌, bytes_cmp, same_bytes}
 use Rattle.history_scribe.specs.Histories.{AreHistories, AreSorted, history_of}
 use Rattle.history_scribe.specs.Text.{history_line}
@@ -20,7 +20,6 @@ use Rattle.replay.proofs.Members.{Contains_from_in, in_from_Contains}
 use Rattle.root_runs.proofs.Calls.{stand_behind}
 use Rattle.root_runs.proofs.Fronts.{run_openings, run_root_events, run_slot_events}
 use Rattle.root_runs.proofs.Opened.{few_events}
-use Rattle.root_runs.proofs.Sources.{from_map}
 use Rattle.root_runs.specs.Lines.{events_of, lines_from}
 use Rattle.root_runs.specs.Openings.{Opening}
 use Rattle.root_runs.specs.Runs.{ensemble_story, key_history, lines_of, lines_with, opening_of, root_lines, root_story, slot_history, story_with}

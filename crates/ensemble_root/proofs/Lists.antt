@@ -45,11 +45,6 @@ take_one {A = A} all place x here = ap (λ (k : ℕ). take k all) (add-one place
     at (e ∷ es) zero x here = ap (λ (y : A). y ∷ []) (same_Some e x here)
     at (e ∷ es) (suc place) x here = ap (λ (l : List A). e ∷ l) (at es place x here)
 
-pub take_size : {A : Type 0} (place : ℕ) (all : List A) → length (take place all) ≤ place
-take_size zero all = omega arith
-take_size (suc place) [] = omega arith
-take_size (suc place) (e ∷ es) = let rest = take_size place es in omega (arith, rest)
-
 pub drop_one : {A : Type 0} (all : List A) (place : ℕ) (x : A) → slice_get all place ≡ Some x → drop place all ≡ x ∷ drop (place + 1) all
 drop_one {A = A} all place x here = at all place x here ∙ ap (λ (k : ℕ). x ∷ drop k all) (sym (add-one place))
   where

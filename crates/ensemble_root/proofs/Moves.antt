@@ -1,11 +1,11 @@
 -- What the calls of a run make of it, from what their parts make.
 use Rattle.std.proofs.Common.{◌≡◌, ℕ, List, [], ◌∷◌, ◌++◌, length, map, drop, Option, Some, None, Result, Ok, Err, refl, sym, ap, subst, ◌∙◌, append-nil, string_bytes}
-use Rattle.std.specs.Prelude.{IfErr, IsSome, OnOk}
+use Rattle.std.specs.Prelude.{IfErr, OnOk}
 use Rattle.std.specs.BTreeMap.{get}
 use Rattle.std.specs.List.{flat_map}
 use Rattle.std.specs.Ordering.{nat_cmp}
 use Rattle.std.proofs.lemmas.List.{length-map, length-replicate}
-use Rattle.std.proofs.lemmas.Option.{same_Some, none-some}
+use Rattle.std.proofs.lemmas.Option.{same_Some}
 use Rattle.held_stores.proofs.Taken.{hashed_none}
 use Rattle.held_stores.specs.Held.{Account, HasHashed}
 use Rattle.register_model.specs.declared.printed.Printed.{Printed}
@@ -56,10 +56,6 @@ slot_size s slot event r old w h there =
     size_of w s.peers b.0.opening.view b.0.events b.2
 
 -- ## Slots
-
-pub is_there : {A : Type 0} (o : Option A) (x : A) → Some x ≡ o → IsSome o
-is_there None x h = absurd (none-some x (sym h))
-is_there (Some y) x h = refl
 
 -- no slot is told
 pub told_none : (s : RootScript) (number : ℕ) (line : Printed) (r : Roots) (w : RootWorlds) (now : Account) → None ≡ told_in s.events line → Stands s r w → Stands s (open_line s.events number line r) w × HasHashed (opened_hashed s (opened_since r (open_line s.events number line r))) now now

@@ -1,5 +1,5 @@
 -- The events of one ensemble may stand in a schedule, and their calls have distinct ids.
-use Rattle.std.proofs.Common.{◌≡◌, ℕ, zero, suc, ◌+◌, ◌*◌, ◌<◌, ◌≤◌, ◌⊎◌, Bool, true, false, if◌then◌else◌, List, [], ◌∷◌, ◌++◌, length, get_or, slice_get, drop, Option, None, Some, inl, inr, refl, sym, ap, subst, arith}
+use Rattle.std.proofs.Common.{◌≡◌, ℕ, zero, suc, ◌+◌, ◌*◌, ◌<◌, ◌≤◌, ◌⊎◌, Bool, true, false, if◌then◌else◌, List, [], ◌∷◌, length, get_or, slice_get, drop, Option, None, Some, inl, inr, refl, sym, ap, subst, arith}
 use Rattle.std.specs.List.{flat_map}
 use Rattle.std.proofs.lemmas.Option.{same_Some, none-some}
 use Rattle.byteorder.specs.Endian.{big_bytes}
@@ -8,6 +8,7 @@ use Rattle.ens_base.specs.Limits.{IsBytes, IsKey, IsValue}
 use Rattle.ens_base.specs.Lists.{◌∈◌, AreDistinct}
 use Rattle.ens_base.specs.View.{IsView}
 use Rattle.ens_base.specs.declared.copy_error.LengthError.{LengthError}
+use Rattle.ens_base.proofs.ByteLists.{bytes_both}
 use Rattle.ens_fields.specs.Views.{view_spelling}
 use Rattle.ens_fields.proofs.MemberLoop.{length-members}
 use Rattle.root_runs.specs.Lines.{ensemble_of, events_of, lines_from, own_event, same_ensemble}
@@ -38,14 +39,9 @@ four_bytes m (suc (suc zero)) = omega arith
 four_bytes m (suc (suc (suc zero))) = omega arith
 four_bytes m (suc (suc (suc (suc i)))) = omega arith
 
-bytes_append : (xs ys : List ℕ) → IsBytes xs → IsBytes ys → IsBytes (xs ++ ys)
-bytes_append [] ys f g i = g i
-bytes_append (x ∷ xs) ys f g zero = f zero
-bytes_append (x ∷ xs) ys f g (suc i) = bytes_append xs ys (λ k. f (suc k)) g i
-
 members_bytes : (ms : List ℕ) → IsBytes (flat_map (big_bytes 4) ms)
 members_bytes [] i = omega arith
-members_bytes (m ∷ ms) i = bytes_append (big_bytes 4 m) (flat_map (big_bytes 4) ms) (four_bytes m) (members_bytes ms) i
+members_bytes (m ∷ ms) i = bytes_both (big_bytes 4 m) (flat_map (big_bytes 4) ms) (four_bytes m) (members_bytes ms) i
 
 pub spelling_size : (view : List ℕ) → length (view_spelling view) ≡ 4 * length view + 1
 spelling_size view = let rest = length-members view in omega (arith, rest)

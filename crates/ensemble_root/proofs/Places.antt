@@ -9,7 +9,7 @@ use Rattle.root_script.specs.declared.event.RootEvent.{RootEvent}
 use Rattle.root_script.specs.declared.event.RootEvent.TheVariants.{At, Open, Look, Route}
 use Rattle.ensemble_root.specs.Standing.{at_place}
 use Rattle.ensemble_root.proofs.Lists.{drop_one, drop_past, take_one}
-use Rattle.history_record.proofs.Gathered.{at_number}
+use Rattle.ens_base.proofs.Tests.{at_number}
 
 -- no event is behind the last
 pub places_first : (events : List RootEvent) (found : Option ℕ) (place id : ℕ) → found ≡ None → length events ≤ place → at_place events found ≡ find (has_id id) (drop place events)

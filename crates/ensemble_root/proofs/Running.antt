@@ -4,6 +4,7 @@ use Rattle.std.specs.BTreeMap.{get, is_at}
 use Rattle.std.specs.List.{flat_map}
 use Rattle.std.specs.Ordering.{nat_cmp}
 use Rattle.std.proofs.lemmas.Grind.{flat_map-append}
+use Rattle.std.proofs.lemmas.List.{map-append}
 use Rattle.held_stores.specs.Held.{Account, HasHashed}
 use Rattle.register_model.specs.declared.printed.Printed.{Printed}
 use Rattle.register_model.specs.declared.printed.Printed.TheVariants as printed
@@ -11,7 +12,6 @@ use Rattle.root_runs.specs.Openings.{Opening, told_by}
 use Rattle.root_runs.specs.Runs.{RootPrinted, by, numbered}
 use Rattle.root_runs.specs.Steps.{Branch, Roots, open_lines, open_slot, open_told, printed_next, put, said}
 use Rattle.root_runs.specs.Text.{printed_line}
-use Rattle.root_runs.proofs.Told.{map_append}
 use Rattle.root_script.specs.declared.event.RootEvent.{RootEvent}
 use Rattle.root_script.specs.declared.script.RootScript.{RootScript}
 use Rattle.root_script.specs.declared.slots.Ensemble.{Ensemble}
@@ -28,7 +28,7 @@ use Rattle.ensemble_root.specs.Standing.{RunsSlot, Stands, line_at, open_line, t
 use Rattle.ensemble_root.specs.Worlds.{newest, world, worlds}
 use Rattle.ensemble_root.specs.declared.worlds.RootWorlds.{RootWorlds}
 use Rattle.ensemble_root.proofs.Lists.{drop_front}
-use Rattle.history_record.proofs.Gathered.{at_number}
+use Rattle.ens_base.proofs.Tests.{at_number}
 
 -- ## One world
 
@@ -167,7 +167,7 @@ module _ (s : RootScript) (number slot : ℕ) (view : List ℕ) (r : Roots) (old
     root = ap run_of same_root ∙ h.root;
     within = h.within;
     slots = λ q. by q (slot == q) refl;
-    opened = ap (map as_opening) more ∙ map_append as_opening old.opened.items ((slot, view, number) ∷ []) ∙ ap (λ (l : List (ℕ × Opening)). l ++ (slot, opening) ∷ []) h.opened;
+    opened = ap (map as_opening) more ∙ map-append as_opening old.opened.items ((slot, view, number) ∷ []) ∙ ap (λ (l : List (ℕ × Opening)). l ++ (slot, opening) ∷ []) h.opened;
     text = same_text ∙ h.text;
   })
     where

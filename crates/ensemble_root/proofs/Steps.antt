@@ -30,9 +30,10 @@ use Rattle.ensemble_root.specs.Hashed.{hashed_by, line_hashed, lines_hashed, ope
 use Rattle.ensemble_root.specs.Standing.{Goes, RunsSlot, Stands, line_at, open_line}
 use Rattle.ensemble_root.specs.Worlds.{branch_run, events_in, newest, world, worlds}
 use Rattle.ensemble_root.specs.declared.worlds.RootWorlds.{RootWorlds}
-use Rattle.ensemble_root.proofs.Lists.{drop_past, parted, split_at, take_one, take_size}
+use Rattle.ensemble_root.proofs.Lists.{drop_past, parted, split_at, take_one}
 use Rattle.ensemble_root.proofs.Running.{hashed_more, line_opens, lines_both, lines_one, lines_open, said_text, since_none, slot_hashed, slot_kept, slot_stands, text_more, world_next, world_prints, world_refused}
-use Rattle.history_record.proofs.Gathered.{at_number}
+use Rattle.ens_base.proofs.Tests.{at_number}
+use Rattle.ens_base.proofs.Lists.{take_few}
 
 -- ## Calls after one another
 
@@ -354,7 +355,7 @@ module _ (s : RootScript) (number before : ℕ) (printed_by : List Printed) (r :
   after_hashed place = opened_hashed s (opened_since r (after_lines place))
 
   no_lines : drop before (take before printed_by) ≡ []
-  no_lines = drop_past before (take before printed_by) (take_size before printed_by)
+  no_lines = drop_past before (take before printed_by) (take_few before printed_by)
 
   pub lines_first : (w : RootWorlds) (now : Account) → Stands s r w → Stands s (after_lines before) w × HasHashed (after_hashed before) now now
   lines_first w now h =

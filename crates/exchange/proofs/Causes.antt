@@ -1,6 +1,7 @@
 -- A plan of a tree is stopped because a count rose, or out of memory.
-use Rattle.std.proofs.Common.{◌≡◌, ◌≤◌, ℕ, List, Option, inl, inr, arith, ap}
+use Rattle.std.proofs.Common.{◌≡◌, ◌≤◌, ℕ, List, Option, inl, inr}
 use Rattle.ens_base.specs.Causes.{Rose}
+use Rattle.ens_base.proofs.Causes.{rose_later, same_count}
 use Rattle.ens_hashing.specs.Hashing.{Book}
 use Rattle.ens_outside.specs.Stores.{NodeCall, NodeAnswer}
 use Rattle.ens_outside.specs.declared.errors.StoreError.{StoreError}
@@ -8,9 +9,6 @@ use Rattle.synctree.specs.Outsides.{outside_does, outside_refuses}
 use Rattle.synctree.specs.Plans.{Call, Node, Hash, AnswerOf, Plan, Done, Broken, Ask, Stops}
 use Rattle.synctree.specs.declared.error.TreeError.{TreeError}
 use Rattle.synctree.specs.declared.error.TreeError.TheVariants as trees
-
-same_count : {A : Type 0} (count : A → ℕ) (a b : A) → b ≡ a → count a ≤ count b
-same_count count a b e = omega (arith, ap count e)
 
 -- no count of the nodes or of the hasher decreased
 record CountsLater {N H : Type 0} (n : N → ℕ) (c d : H → ℕ) (s t : N × H) : Type 0 where
@@ -37,9 +35,6 @@ module _ {N H : Type 0} (reads : N → (call : NodeCall) → NodeAnswer call →
   do_later : (s : N × H) (call : Call) (a : AnswerOf call) (t : N × H) → Does s call a t → CountsLater n c d s t
   do_later s (Node call) a t did = record { nodes = did.2; clashes = same_count c s.1 t.1 did.3; fulls = same_count d s.1 t.1 did.3 }
   do_later s (Hash bytes) a t did = record { nodes = same_count n s.0 t.0 did.0; clashes = did.2; fulls = did.3 }
-
-  rose_later : (before between now : ℕ) → before ≤ between → Rose between now → Rose before now
-  rose_later before between now later rose = omega (arith, later, rose)
 
   cause_later : (s u t : N × H) (e : TreeError) → CountsLater n c d s u → IsTreeCause n c d u e t → IsTreeCause n c d s e t
   cause_later s u t (trees.Damaged at) later cause = cause

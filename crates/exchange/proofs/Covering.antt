@@ -1,11 +1,11 @@
 -- Taking a page, or the children of an inner node, keeps covered what the map has that they are of.
 use Rattle.std.proofs.Common.{◌≡◌, ◌⊎◌, ℕ, zero, suc, ◌+◌, ◌<◌, Bool, true, false, List, [], ◌∷◌, ◌++◌, Option, None, Some, length, get_or, take, refl, ap, sym, ◌∙◌, subst, arith, inl, inr}
 use Rattle.std.specs.Prelude.{nat_lt, ◌==◌}
-use Rattle.std.proofs.lemmas.Bool.Decides.{nat_tests}
 use Rattle.std.proofs.lemmas.Bool.{lt-ltb}
 use Rattle.md5.specs.Md5.{md5}
 use Rattle.ens_base.specs.declared.entry.Entry.{Entry}
 use Rattle.ens_base.specs.declared.epoch.Version.{Version}
+use Rattle.ens_base.proofs.Tests.{itself}
 use Rattle.tree_node.specs.declared.position.Position.{Position}
 use Rattle.tree_node.specs.declared.version.TreeVersion.{TreeVersion}
 use Rattle.tree_node.specs.Entries.{is_less, is_above}
@@ -30,9 +30,6 @@ above_has : (a : List ℕ) (m : List Entry) (k : List ℕ) (v : Version) → IsB
 above_has a [] k v b h = absurd h
 above_has a (x ∷ m) k v b (inl (is, le)) = subst (λ (q : List ℕ). is_above a q ≡ true) is (ap is_less b.0)
 above_has a (x ∷ m) k v b (inr h) = above_has a m k v b.1 h
-
-same_true : (a : ℕ) → (a == a) ≡ true
-same_true a = grind (arith, nat_tests)
 
 -- past the entries of a page, or on it
 abbrev OnPage : ℕ → List Entry → List ℕ → Version → Type 0
@@ -110,7 +107,7 @@ inner_keeps tree h at damaged names q rest received own m k v ask is wide down f
         (subst (λ (es : List Entry). PassesAny tree k (to_ask tree damaged at names 0 (children (form_of tree) h at (under (form_of tree) at m)) ++ rest) ⊎ (Has es k v ⊎ Has own k v)) (sym received_is) found))
 
     here : Passes tree k at → Has (within (form_of tree) at ((form_of tree).digit k at.level) (under (form_of tree) at m)) k v
-    here p = has_part (λ key. (form_of tree).digit key at.level == ((form_of tree).digit k at.level)) (under (form_of tree) at m) k v (same_true ((form_of tree).digit k at.level)) (has_part (λ key. passes (form_of tree) key at.level at.index) m k v p has)
+    here p = has_part (λ key. (form_of tree).digit key at.level == ((form_of tree).digit k at.level)) (under (form_of tree) at m) k v (itself ((form_of tree).digit k at.level)) (has_part (λ key. passes (form_of tree) key at.level at.index) m k v p has)
 
     go : Passes tree k at → (t : Bool) → is_known damaged (child (form_of tree) at ((form_of tree).digit k at.level)) (get_or names ((form_of tree).digit k at.level) None) (md5 (text (form_of tree) h (child (form_of tree) at ((form_of tree).digit k at.level)) (within (form_of tree) at ((form_of tree).digit k at.level) (under (form_of tree) at m)))) ≡ t → (Covers tree (after_inner tree damaged at names (children (form_of tree) h at (under (form_of tree) at m)) ask) own k v)
     go p true known = ends (inr (inr (fair ((form_of tree).digit k at.level) (md5 (text (form_of tree) h (child (form_of tree) at ((form_of tree).digit k at.level)) (within (form_of tree) at ((form_of tree).digit k at.level) (under (form_of tree) at m)))) k v wide known refl (down p) (here p))))

@@ -21,10 +21,10 @@ use Rattle.tree_maps.specs.Maps.{within, named, text, children, IsNode}
 use Rattle.tree_maps.specs.Paths.{passes, under}
 use Rattle.tree_maps.specs.Sixteen.{form_of, children_of}
 use Rattle.tree_maps.proofs.Below.{there_if_some, under_map, node_below, some_width}
-use Rattle.tree_maps.proofs.Formats.{form_laws}
+use Rattle.tree_maps.proofs.Formats.{form_laws, place_position}
 use Rattle.tree_maps.proofs.Parts.{map_part}
 use Rattle.tree_maps.proofs.Unique.{has_entries, one_map, child_is, child_place}
-use Rattle.synctree.proofs.Places.{position_of, place_of}
+use Rattle.synctree.proofs.Places.{place_of}
 use Rattle.exchange.specs.Asked.{Asked}
 use Rattle.exchange.specs.declared.question.Question.{Question}
 use Rattle.exchange.specs.declared.step.Step.TheVariants as steps
@@ -103,7 +103,7 @@ known_has tree h at own scan m n p ok is apart c d k v wide known names passing 
         let one = from_filter (λ x. (form_of tree).digit x.key at.level == c) e.entry (under (form_of tree) at n) e.inside in
         let two = from_filter (λ x. passes (form_of tree) x.key at.level at.index) e.entry n one.0 in
         let through : Passes tree e.entry.key (child (form_of tree) at c) = subst (λ (key : List ℕ). Passes tree key (child (form_of tree) at c)) (sym e.key_is) passing in
-        in_has e.entry scan.entries k v (is.scanned e.entry two.0 (λ any. passes_none tree e.entry.key (child (form_of tree) at c) scan.damaged (position_of tree h (child (form_of tree) at c) place) is.positions free through any)) e.key_is e.least
+        in_has e.entry scan.entries k v (is.scanned e.entry two.0 (λ any. passes_none tree e.entry.key (child (form_of tree) at c) scan.damaged (place_position tree h (child (form_of tree) at c) place) is.positions free through any)) e.key_is e.least
 
     same : within (form_of tree) at c (under (form_of tree) at n) ≢ [] → d ≡ md5 (text (form_of tree) h (child (form_of tree) at c) (within (form_of tree) at c (under (form_of tree) at n))) → (within (form_of tree) at c (under (form_of tree) at m)) ≡ (within (form_of tree) at c (under (form_of tree) at n))
     same some e = one_map (form_of tree) (form_laws tree) h (child (form_of tree) at c) (within (form_of tree) at c (under (form_of tree) at m)) (within (form_of tree) at c (under (form_of tree) at n)) place

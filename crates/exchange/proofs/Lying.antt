@@ -17,6 +17,7 @@ use Rattle.tree_maps.proofs.Formats.{form_laws}
 use Rattle.synctree.proofs.Places.{width_is}
 use Rattle.exchange.specs.Asks.{up, lies_in, meets}
 use Rattle.exchange.specs.Covers.{Passes, PassesAny}
+use Rattle.ens_base.proofs.Tests.{apart as not_both}
 
 module _ (F : Form) (laws : Laws F) (key : List ℕ) where
   -- a path goes through the positions above each that it goes through
@@ -57,9 +58,6 @@ back a b h = omega (arith, h)
 
 tests : (a b i j : ℕ) → a ≤ b → i ≡ j → (nat_le a b && i == j) ≡ true
 tests a b i j h e = grind (arith, nat_tests)
-
-not_both : (b : Bool) → b ≡ true → b ≡ false → ⊥
-not_both b e f = absurd cc
 
 total : (a b : ℕ) → (a ≤ b) ⊎ (b ≤ a)
 total zero b = inl (omega arith)

@@ -7,9 +7,10 @@ use Rattle.tree_node.specs.declared.version.TreeVersion.TheVariants.{One}
 use Rattle.tree_node.specs.TreeVersions.{levels}
 use Rattle.tree_node.specs.Positions.{IsPosition}
 use Rattle.tree_maps.proofs.Slices.{drop_all}
+use Rattle.tree_maps.proofs.Formats.{place_position}
 use Rattle.tree_maps.specs.Forms.{root, child}
 use Rattle.tree_maps.specs.Sixteen.{form_of, children_of}
-use Rattle.synctree.proofs.Places.{place_of, place_below, position_of}
+use Rattle.synctree.proofs.Places.{place_of, place_below}
 use Rattle.synctree.proofs.Puts.{read_width}
 use Rattle.exchange.specs.Asks.{is_known, if_unknown, to_ask}
 
@@ -36,7 +37,7 @@ all_append tree [] b p q = q
 all_append tree (x ∷ a) b p q = (p.0, all_append tree a b p.1 q)
 
 child_position : (tree : TreeVersion) (at : Position) (i : ℕ) → IsPosition tree at → at.level < levels tree → i < 16 → IsPosition tree (child (form_of tree) at i)
-child_position tree at i p l c = position_of tree ((levels tree - at.level) - 1) (child (form_of tree) at i) (place_below tree (levels tree - at.level) at (child (form_of tree) at i) i (place_of tree at p) (omega (arith, l)) refl c)
+child_position tree at i p l c = place_position tree ((levels tree - at.level) - 1) (child (form_of tree) at i) (place_below tree (levels tree - at.level) at (child (form_of tree) at i) i (place_of tree at p) (omega (arith, l)) refl c)
 
 one_places : (tree : TreeVersion) (damaged : List Position) (at : Position) (own name : Option (List ℕ)) → IsPosition tree at → AllByRecursion (IsPosition tree) (if_unknown damaged at own name)
 one_places tree damaged at own None p = tt

@@ -1,11 +1,11 @@
 -- Frames that are sent one after another, and the front of them that was sent.
 use Rattle.std.specs.Prelude.{All, IsErrAnd, Option, None, Some, map}
-use Rattle.std.proofs.Common.{◌≡◌, ◌≤◌, ◌∙◌, ap, sym, subst, refl, ℕ, true, List, [], ◌∷◌, ◌++◌, length, Result, Ok, Err, append_assoc, append-nil, arith}
+use Rattle.std.proofs.Common.{◌≡◌, ◌∙◌, ap, sym, subst, refl, ℕ, true, List, [], ◌∷◌, ◌++◌, length, Result, Ok, Err, append_assoc, append-nil, arith}
 use Rattle.std.proofs.lemmas.List.{map-append}
 use Rattle.std.proofs.lemmas.List.Elements.{All-head, All-tail}
 use Rattle.std.specs.Vec.Iter.{into_iter_items, into_iter_len}
 use Rattle.std.specs.declared.vec.IntoIter.{IntoIter}
-use Rattle.ens_base.specs.Causes.{Rose}
+use Rattle.ens_base.proofs.Causes.{rose_later}
 use Rattle.ens_outside.specs.Links.{LinkCounts, Sends}
 use Rattle.ens_outside.specs.Told.{StaysTold}
 use Rattle.ens_outside.specs.declared.errors.LinkError.{LinkError}
@@ -46,9 +46,6 @@ no_items (x ∷ xs) none = absurd (omega arith)
 -- an iterator that came to its end has no items
 pub none_left : {X A : Type 0} (it : IntoIter X A) → into_iter_len it ≡ 0 → into_iter_items it ≡ []
 none_left it none = no_items it.rest.items (sym it.rest.ok.0 ∙ none)
-
-rose_later : (a b c : ℕ) → a ≤ b → Rose b c → Rose a c
-rose_later a b c first rose = omega (arith, first, rose)
 
 module _ {L : Type 0} (sent : L → Option (List (ℕ × List ℕ))) (given : L → Option (List (Option (List ℕ)))) (faults : L → ℕ) where
   -- bytes were handed to the link for a number

@@ -32,8 +32,9 @@ use Rattle.held_stores.specs.Answers.{Answered, answered, by_walk, walked, looke
 use Rattle.held_stores.specs.Held.{HeldStores, Held, Account, account, HasHashed, StartsWith, unless_failing}
 use Rattle.held_stores.specs.Laws.{HeldDo, HeldRefuse, IsUnplanned, held_with}
 use Rattle.held_stores.specs.Walks.{End, Came, Broke, Failed, Walk, walk}
-use Rattle.held_stores.proofs.Taken.{starts_here, rejected_at, rose_since, hashed_more}
+use Rattle.held_stores.proofs.Taken.{starts_here, rejected_at, hashed_more}
 use Rattle.held_stores.proofs.Walking.{Does, Refuses, IsWalk, IsHalted, IsUnplannedTree, end_was, ends_walk, halts_walk, walk_grows, goes_on, fails_by}
+use Rattle.ens_base.proofs.Causes.{rose_later}
 
 with_its_facts : (s t : HeldStores) (facts : HeldFact) → t.backend ≡ s.backend → t.tree ≡ s.tree → t.facts ≡ facts → record s { facts = facts } ≡ t
 with_its_facts s t facts backend tree same = sym (same_stores (record s { facts = facts }) t backend tree same)
@@ -208,10 +209,10 @@ module _ {H : Type 0} (strings : H → Option Book) (c d : H → ℕ) (first : A
   hash_refused bytes s t hashed errors.Halted taken off = absurd off.0
   hash_refused bytes s t hashed (errors.Clash kept new) taken off =
       let rejected = rejected_at hashed (hashed ++ bytes ∷ []) first bytes (known t.1) (starts_here (hashed ++ bytes ∷ [])) (rw off.0.0 taken.taken) in
-      inl (rw off.0.3 rejected, off.0.1, rw off.0.0 off.0.2, rose_since first.clashes (c s.1) (c t.1) taken.clashes off.0.4)
+      inl (rw off.0.3 rejected, off.0.1, rw off.0.0 off.0.2, rose_later first.clashes (c s.1) (c t.1) taken.clashes off.0.4)
   hash_refused bytes s t hashed (errors.BookFull n) taken off =
       let rejected = rejected_at hashed (hashed ++ bytes ∷ []) first bytes (known t.1) (starts_here (hashed ++ bytes ∷ [])) (rw off.0.0 taken.taken) in
-      inl ((bytes, rejected, rose_since first.fulls (d s.1) (d t.1) taken.fulls off.0.1, rw off.0.0 off.0.3), rw off.0.0 off.0.4)
+      inl ((bytes, rejected, rose_later first.fulls (d s.1) (d t.1) taken.fulls off.0.1, rw off.0.0 off.0.3), rw off.0.0 off.0.4)
 
   save_refused : (fact : _) (s t : HeldStores × H) (hashed : List (List ℕ)) (e : PeerError) → HasHashed hashed first (known s.1) → HeldRefuse strings c d s (Save fact) e t → IsRefused (Save fact) s hashed e t
   save_refused fact s t hashed e taken off = inr (

@@ -2,7 +2,6 @@
 use Rattle.std.proofs.Common.{◌≡◌, ◌≤◌, ◌⊎◌, ℕ, List, [], ◌∷◌, ◌++◌, Option, None, Some, Contains, refl, sym, ap, subst, ◌∙◌, inl, inr, arith}
 use Rattle.std.proofs.lemmas.List.{append-nil, append_assoc}
 use Rattle.std.proofs.lemmas.List.Elements.{Contains-append_left, Contains-append_cases, Contains-push, Contains-push_cases}
-use Rattle.ens_base.specs.Causes.{Rose}
 use Rattle.ens_hashing.proofs.ClashFree.{same_string}
 use Rattle.ens_hashing.specs.Hashing.{Book, Takes, AreClashFree, empty_book}
 use Rattle.step_plans.specs.declared.error.PeerError.{PeerError}
@@ -48,10 +47,6 @@ unplanned_further xs ys first now (errors.BookFull kept) starts cut = (let fille
 unplanned_further xs ys first now errors.StoreFault starts cut = absurd cut
 unplanned_further xs ys first now errors.Halted starts cut = absurd cut
 unplanned_further xs ys first now (errors.BadFact why) starts cut = absurd cut
-
--- a count that rose after it had not fallen
-pub rose_since : (a b c : ℕ) → a ≤ b → Rose b c → Rose a c
-rose_since a b c before rose = omega (arith, before, rose)
 
 -- ## Strings were taken
 

@@ -12,7 +12,8 @@ use Rattle.world_stores.specs.Nodes.{Nodes, NodesDo, NodesRefuse, refusal, answe
 use Rattle.held_stores.specs.Held.{Account, account, HasHashed, StartsWith, unless_failing}
 use Rattle.held_stores.specs.Laws.{HasClashed, HasFilledAt}
 use Rattle.held_stores.specs.Walks.{End, Came, Broke, Failed, Walk, walk, nodes_failed}
-use Rattle.held_stores.proofs.Taken.{starts_here, starts_before, rejected_at, rose_since, hashed_more}
+use Rattle.held_stores.proofs.Taken.{starts_here, starts_before, rejected_at, hashed_more}
+use Rattle.ens_base.proofs.Causes.{rose_later}
 
 -- the end of a plan, as the end of its walk
 abbrev pub end_was : {A : Type 0} → Result A Position → End A
@@ -111,10 +112,10 @@ module _ {H : Type 0} (strings : H → Option Book) (c d : H → ℕ) (first : A
   hash_refused bytes next s t hashed trees.Failed taken off = off
   hash_refused bytes next s t hashed (trees.Clash kept new) taken off =
       let rejected = rejected_at hashed (walk (next tt) s.0 (hashed ++ bytes ∷ [])).hashed first bytes (tells t.1) (walk_grows (next tt) s.0 (hashed ++ bytes ∷ [])) (rw off.1 taken.taken) in
-      (rw off.2.2 rejected, off.2.0, rw off.1 off.2.1, rose_since first.clashes (c s.1) (c t.1) taken.clashes off.2.3)
+      (rw off.2.2 rejected, off.2.0, rw off.1 off.2.1, rose_later first.clashes (c s.1) (c t.1) taken.clashes off.2.3)
   hash_refused bytes next s t hashed (trees.BookFull n) taken off =
       let rejected = rejected_at hashed (walk (next tt) s.0 (hashed ++ bytes ∷ [])).hashed first bytes (tells t.1) (walk_grows (next tt) s.0 (hashed ++ bytes ∷ [])) (rw off.1 taken.taken) in
-      ((bytes, rejected, rose_since first.fulls (d s.1) (d t.1) taken.fulls off.2.0, rw off.1 off.2.2), rw off.1 off.2.3)
+      ((bytes, rejected, rose_later first.fulls (d s.1) (d t.1) taken.fulls off.2.0, rw off.1 off.2.2), rw off.1 off.2.3)
   hash_refused bytes next s t hashed trees.Memory taken off = tt
 
   hash_walk : {A : Type 0} (bytes : List ℕ) (next : Unit {0} → Plan A) (s : Nodes) (hashed : List (List ℕ)) → walk (Ask (Hash bytes) next) s hashed ≡ walk (next tt) s (hashed ++ bytes ∷ [])

@@ -5,13 +5,14 @@ use Rattle.std.specs.List.{list_any}
 use Rattle.std.proofs.lemmas.Bool.{eq-eqb, or_cases, or_parts, not-false, not-true, and_parts, lt-ltb, ltb-true, eqb-true, or_right, or_left, not_from_false, and_from}
 use Rattle.ens_base.specs.Lists.{◌∈◌, AreDistinct, is_in, same_bytes}
 use Rattle.ens_base.proofs.Lists.{bytes_same, bytes_itself, in_tested, tested_in}
+use Rattle.ens_base.proofs.Tests.{apart}
 use Rattle.register_model.specs.Histories.{IsDone, IsRefused, is_done, is_refused, StandsBefore, IsLegal}
 use Rattle.register_model.specs.declared.answer.Answer.{Answer}
 use Rattle.register_model.specs.declared.call.Call.{Call}
 use Rattle.register_model.proofs.ReplyTests.{done_is, refused_is}
 use Rattle.register_runs.proofs.Runs.{stops_no_run}
 use Rattle.history_faults.specs.Clauses.{was_done, was_refused, was_done_before, is_call_on, ids_on, first_stray, is_amiss, first_amiss_in, first_amiss, is_late, first_late, KeepsThree, IsFault}
-use Rattle.history_faults.proofs.Lookups.{apart, item_any, any_item}
+use Rattle.history_faults.proofs.Lookups.{item_any, any_item}
 
 if_none : (b : Bool) (x : ℕ) (o : Option ℕ) → (if b then Some x else o) ≡ None → (b ≡ false) × (o ≡ None)
 if_none true x o h = absurd cc

@@ -10,10 +10,6 @@ pub or_false : (b : Bool) → (b || false) ≡ b
 or_false true = refl
 or_false false = refl
 
-pub apart : (b : Bool) → b ≡ true → b ≡ false → ⊥
-apart true h k = cc
-apart false h k = cc
-
 -- an item that passes
 pub item_any : {A : Type 0} (test : A → Bool) (xs : List A) (x : A) → x ∈ xs → test x ≡ true → list_any test xs ≡ true
 item_any test [] x there h = absurd there

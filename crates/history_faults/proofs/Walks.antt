@@ -8,6 +8,8 @@ use Rattle.std.proofs.lemmas.Bool.Decides.{nat_tests}
 use Rattle.std.proofs.lemmas.List.{drop_more, drop_all, take_more}
 use Rattle.std.proofs.lemmas.Map.Text.{is_eq-slice_cmp}
 use Rattle.ens_base.specs.Lists.{is_in, same_bytes, bytes_cmp}
+use Rattle.ens_base.proofs.Tests.{at_number, last_or_none}
+use Rattle.ens_base.proofs.Lists.{is_in-push}
 use Rattle.register_model.specs.declared.answer.Answer.{Answer}
 use Rattle.register_model.specs.declared.call.Call.{Call}
 use Rattle.register_model.specs.declared.history.History.{History}
@@ -15,14 +17,9 @@ use Rattle.history_faults.specs.Clauses.{first_amiss_in, first_late, first_stray
 use Rattle.history_faults.specs.Lookups.{is_before}
 use Rattle.history_faults.specs.Faults.{AreFaults, IsFaultOf}
 use Rattle.history_faults.specs.declared.fault.Fault.{Fault}
-use Rattle.history_faults.proofs.Lookups.{any_alike, or_false}
+use Rattle.history_faults.proofs.Lookups.{any_alike}
 
 -- ## The ids of the calls on a key
-
-last_or_none : {A : Type 0} (b : Bool) (xs : List A) (x : A) → xs ++ cond b (x ∷ []) [] ≡ cond b (xs ++ x ∷ []) xs
-last_or_none true xs x = refl
-last_or_none false [] x = refl
-last_or_none false (y ∷ ys) x = ap (λ zs. y ∷ zs) (last_or_none false ys x)
 
 ids_behind : (calls : List Call) (c : Call) (key : List ℕ) → ids_on (calls ++ c ∷ []) key ≡ ids_on calls key ++ cond (same_bytes c.key key) (c.id ∷ []) []
 ids_behind [] c key = refl
@@ -67,9 +64,6 @@ few_faults calls answers (h ∷ hs) faults (inr some) =
 
 pub flip : (a b : ℕ) → (a == b) ≡ (b == a)
 flip a b = grind (arith, nat_tests)
-
-pub at_number : (a b : ℕ) → is_at (nat_cmp a) b ≡ (a == b)
-at_number a b = grind (arith, nat_tests)
 
 twice_not : (x on : Bool) (a b : Option ℕ) → (if not (not x) || not on then a else b) ≡ (if x || not on then a else b)
 twice_not true on a b = refl
@@ -116,17 +110,9 @@ min_before a b event = grind (arith, nat_tests)
 pub none_in : (q : ℕ) (ids : List ℕ) → ids ≡ [] → is_in ids q ≡ false
 none_in q ids e = ap (λ (l : List ℕ). is_in l q) e
 
-is_in_more : (xs : List ℕ) (x q : ℕ) → is_in (xs ++ x ∷ []) q ≡ (is_in xs q || q == x)
-is_in_more [] x q = or_false (q == x)
-is_in_more (y ∷ ys) x q = by (q == y) (is_in_more ys x q)
-  where
-    by : (b : Bool) → is_in (ys ++ x ∷ []) q ≡ (is_in ys q || q == x) → (b || is_in (ys ++ x ∷ []) q) ≡ ((b || is_in ys q) || q == x)
-    by true e = refl
-    by false e = e
-
 pub set_step : (ids : List ℕ) (n d q : ℕ) → n < length ids → (old new : Bool) → old ≡ is_in (take n ids) q → new ≡ cond (is_at (nat_cmp (get_or ids n d)) q) true old → new ≡ is_in (take (n + 1) ids) q
 set_step ids n d q lt old new e f =
-    f ∙ (λ i. cond ((at_number (get_or ids n d) q ∙ flip (get_or ids n d) q) i) true (e i)) ∙ or_cond (q == get_or ids n d) (is_in (take n ids) q) ∙ sym (is_in_more (take n ids) (get_or ids n d) q)
+    f ∙ (λ i. cond ((at_number (get_or ids n d) q ∙ flip (get_or ids n d) q) i) true (e i)) ∙ or_cond (q == get_or ids n d) (is_in (take n ids) q) ∙ sym (is_in-push (take n ids) (get_or ids n d) q)
     ∙ sym (ap (λ (l : List ℕ). is_in l q) (take_more ids n d lt))
   where
     or_cond : (a b : Bool) → cond a true b ≡ (b || a)

@@ -1,10 +1,10 @@
 -- A history under other numbers of events.
-use Rattle.std.proofs.Common.{◌≡◌, ℕ, ◌<◌, ◌⊎◌, List, [], ◌∷◌, map, inl, inr, refl, sym, ap, subst, ◌∙◌, arith}
+use Rattle.std.proofs.Common.{◌≡◌, ℕ, ◌<◌, ◌⊎◌, List, [], ◌∷◌, map, inl, inr, sym, ap, subst, ◌∙◌, arith}
 use Rattle.std.proofs.lemmas.Bool.{cases_order}
 use Rattle.ens_base.specs.Lists.{◌∈◌}
 use Rattle.ens_base.specs.declared.epoch.Version.{Version}
 use Rattle.ens_base.specs.declared.reply.Reply.{Reply}
-use Rattle.ens_base.proofs.Lists.{in-map}
+use Rattle.ens_base.proofs.Lists.{in-map, from_map}
 use Rattle.register_model.specs.Histories.{IsDone, IsLegal, IsRefused, MayHave, RunsFrom, StandsBefore}
 use Rattle.register_model.specs.Registers.{stamps_after}
 use Rattle.register_model.specs.declared.answer.Answer.{Answer}
@@ -12,11 +12,6 @@ use Rattle.register_model.specs.declared.call.Call.{Call}
 use Rattle.register_model.specs.declared.register.Register.{Register}
 use Rattle.register_model.specs.declared.register.Register.TheVariants.{Absent}
 use Rattle.history_laws.specs.Parts.{RiseWith, numbered_answer, numbered_call}
-
-from_map : {A B : Type 0} (f : A → B) (xs : List A) (y : B) → y ∈ map f xs → (x : A) × (x ∈ xs) × (y ≡ f x)
-from_map f [] y h = absurd h
-from_map f (x ∷ xs) y (inl e) = (x, inl refl, e)
-from_map f (x ∷ xs) y (inr h) = let later = from_map f xs y h in (later.0, inr later.1, later.2)
 
 module _ (number : ℕ → ℕ) (calls : List Call) (answers : List Answer) where
   abbrev Calls : List Call

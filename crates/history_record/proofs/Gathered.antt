@@ -1,19 +1,15 @@
 -- The calls, the changes and the keys of a schedule, gathered from its end.
 use Rattle.std.proofs.Common.{◌≡◌, ℕ, ◌+◌, ◌*◌, ◌<◌, ◌≤◌, cond, List, [], ◌∷◌, length, get_or, drop, Option, None, Some, sym, ap, ◌∙◌, arith}
-use Rattle.std.specs.Prelude.{◌==◌}
 use Rattle.std.specs.BTreeMap.{is_at}
 use Rattle.std.specs.BTreeSet.{insert_key}
 use Rattle.std.specs.Ordering.{nat_cmp}
-use Rattle.std.proofs.lemmas.Bool.Decides.{nat_tests}
 use Rattle.std.proofs.lemmas.List.{drop_more, drop_all}
 use Rattle.ens_base.specs.Lists.{bytes_cmp}
 use Rattle.ens_base.specs.declared.command.Command.{Command}
+use Rattle.ens_base.proofs.Tests.{at_number}
 use Rattle.schedule_text.specs.declared.event.ScheduleEvent.{ScheduleEvent}
 use Rattle.schedule_text.specs.declared.event.ScheduleEvent.TheVariants as line
 use Rattle.history_record.specs.Calls.{call_event, change_peer, keys_of}
-
-pub at_number : (a b : ℕ) → is_at (nat_cmp a) b ≡ (a == b)
-at_number a b = grind (arith, nat_tests)
 
 -- the events behind the first n were gathered
 pub record HasGathered (events : List ScheduleEvent) (find_call find_change : ℕ → Option ℕ) (sorted : List (List ℕ)) (entries n : ℕ) : Type 0 where

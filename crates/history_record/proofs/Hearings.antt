@@ -5,8 +5,10 @@ use Rattle.std.specs.List.{list_any}
 use Rattle.std.specs.BTreeMap.{is_at}
 use Rattle.std.specs.Ordering.{nat_cmp}
 use Rattle.std.proofs.lemmas.Bool.{eq-eqb, ne_eqb}
+use Rattle.std.proofs.Math.Bool.{or-false}
 use Rattle.ens_base.specs.Lists.{◌∈◌, AreDistinct}
 use Rattle.ens_base.proofs.Lists.{in-map}
+use Rattle.ens_base.proofs.Tests.{at_number, apart}
 use Rattle.register_model.specs.declared.answer.Answer.{Answer}
 use Rattle.register_model.specs.declared.call.Call.{Call}
 use Rattle.register_model.specs.declared.history.History.{History}
@@ -17,15 +19,7 @@ use Rattle.schedule_text.proofs.Ids.{in_end}
 use Rattle.history_record.specs.Calls.{call_event, calls_from, change_peer}
 use Rattle.history_record.specs.Kept.{IsFit, IsKept, IsSound}
 use Rattle.history_record.specs.Telling.{Heard, is_answered, is_changed, nothing_heard}
-use Rattle.history_record.proofs.Gathered.{HasGathered, at_number}
-
-or_false : (b : Bool) → (b || false) ≡ b
-or_false true = refl
-or_false false = refl
-
-apart : (b : Bool) → b ≡ true → b ≡ false → ⊥
-apart true h k = cc
-apart false h k = cc
+use Rattle.history_record.proofs.Gathered.{HasGathered}
 
 -- ## The event of a call
 
@@ -45,7 +39,7 @@ some_same x y e = cc
 -- ## One item more
 
 any_more : {A : Type 0} (test : A → Bool) (xs : List A) (x : A) → list_any test (xs ++ x ∷ []) ≡ (list_any test xs || test x)
-any_more test [] x = or_false (test x)
+any_more test [] x = or-false (test x)
 any_more test (y ∷ ys) x = by (test y) (any_more test ys x)
   where
     by : (b : Bool) → list_any test (ys ++ x ∷ []) ≡ (list_any test ys || test x) → (b || list_any test (ys ++ x ∷ [])) ≡ ((b || list_any test ys) || test x)

@@ -27,7 +27,7 @@ abbrev pub form_error : WordError → LineError
 form_error (words.Bad cause) = Flawed Form
 form_error words.Memory = Memory
 
--- a refusal has the flaw of the reading, or is for want of memory
+-- a refusal has the flaw of the reading, or is out of memory
 abbrev pub Rejects : {A : Type 0} → Result A Flaw → LineError → Type 0
 Rejects read (Flawed flaw) = read ≡ Err flaw
 Rejects read Memory = Unit {0}

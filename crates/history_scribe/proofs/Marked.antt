@@ -5,6 +5,7 @@ use lib.Pointwise.{bytes_decides}
 use Rattle.std.specs.Ordering.{is_eq}
 use Rattle.std.proofs.lemmas.Map.Text.{is_eq-slice_cmp}
 use Rattle.ens_base.specs.Lists.{same_bytes, bytes_cmp}
+use Rattle.ens_base.proofs.Tests.{last_or_none}
 use Rattle.register_model.specs.Orders.{rank, rank_or_none, lower_or_none, parent_in, call_in, newest_in, reads_on, chain, write_of, blocks, block, order}
 use Rattle.register_model.specs.declared.note.Note.{Note}
 use Rattle.register_model.specs.declared.note.Note.TheVariants.{Proposed, Settled, Read}
@@ -12,11 +13,6 @@ use Rattle.history_scribe.specs.Marks.{key_of, mark_of, noted, all_noted, marks_
 use Rattle.history_scribe.specs.declared.mark.Mark.{Mark}
 
 -- ## One more note
-
-last_or_none : {A : Type 0} (b : Bool) (xs : List A) (x : A) → xs ++ cond b (x ∷ []) [] ≡ cond b (xs ++ x ∷ []) xs
-last_or_none true xs x = refl
-last_or_none false [] x = refl
-last_or_none false (y ∷ ys) x = ap (λ zs. y ∷ zs) (last_or_none false ys x)
 
 marks_behind : (notes : List Note) (n : Note) (key : List ℕ) → marks_on (notes ++ n ∷ []) key ≡ marks_on notes key ++ cond (same_bytes (key_of n) key) (mark_of n ∷ []) []
 marks_behind [] n key = refl

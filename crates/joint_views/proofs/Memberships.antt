@@ -1,6 +1,7 @@
 -- The tests of membership decide membership.
 use Rattle.std.specs.Prelude.{slice_index_or, Contains, ◌||◌, ◌&&◌, ◌↔◌}
 use Rattle.ens_base.specs.Lists.{is_in}
+use Rattle.ens_base.proofs.Tests.{same_test}
 use Rattle.std.proofs.Common.{◌≡◌, ℕ, zero, suc, ◌<◌, ◌⊎◌, Bool, true, ◌==◌, List, [], ◌∷◌, length, arith, refl, inl, inr}
 use Rattle.std.proofs.lemmas.Bool.{false≢true, or_cases, or_left, or_right, and_parts}
 use Rattle.std.proofs.lemmas.Bool.Decides.{nat_tests}
@@ -31,10 +32,6 @@ contains_of_in (member ∷ view) peer h = by_head (either peer member (is_in vie
     by_head : (member ≡ peer) ⊎ (is_in view peer ≡ true) → (is_in view peer ≡ true → Contains view peer) → Contains (member ∷ view) peer
     by_head (inl e) rest = (zero, omega arith, e)
     by_head (inr t) rest = (suc (rest t).0, omega (arith, (rest t).1), (rest t).2)
-
--- two tests that agree are equal
-pub same_test : (a b : Bool) → (a ≡ true → b ≡ true) → (b ≡ true → a ≡ true) → a ≡ b
-same_test a b there back = grind (arith, nat_tests)
 
 pub in_is : (view : List ℕ) (peer : ℕ) (b : Bool) → ((b ≡ true) ↔ Contains view peer) → b ≡ is_in view peer
 in_is view peer b h = same_test b (is_in view peer) (λ t. in_of_contains view peer (h.0 t)) (λ t. h.1 (contains_of_in view peer t))

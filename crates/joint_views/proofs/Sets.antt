@@ -1,5 +1,5 @@
 -- Sets that a loop over the members of a view fills.
-use Rattle.std.specs.Prelude.{replicate, slice_set, ◌||◌}
+use Rattle.std.specs.Prelude.{replicate, slice_set, ◌||◌, slice_index_or}
 use Rattle.ens_base.specs.Lists.{is_in}
 use Rattle.std.proofs.Common.{◌≡◌, ℕ, zero, suc, ◌+◌, ◌<◌, ◌≤◌, Bool, true, false, ◌==◌, List, [], ◌∷◌, ◌++◌, length, take, get_or, ◌⊎◌, inl, inr, arith, refl, sym, ap, ◌∙◌}
 use Rattle.std.proofs.lemmas.Bool.{cases_lt}
@@ -55,7 +55,7 @@ all_at test set at none (suc k) h = at (suc k) ∙ sym (get_or-map-range_with_le
 pub set_of_test : (test : ℕ → Bool) (set : List Bool) → length set ≡ 32 → test 0 ≡ false → ((p : ℕ) → holds set p ≡ test p) → set ≡ those test
 set_of_test test set size none at = ext_get_or false set (those test) size (λ p h. all_at test set at none p (omega (arith, h, size)))
 
-none_held : (p : ℕ) → holds (replicate 32 false) p ≡ false
+pub none_held : (p : ℕ) → holds (replicate 32 false) p ≡ false
 none_held p = by_place (cases_lt p 32)
   where
     by_place : (p < 32) ⊎ (32 ≤ p) → holds (replicate 32 false) p ≡ false
@@ -76,3 +76,9 @@ two_hold views first second set all e at more p = rw e (two_at (is_in first p) (
 
 pub set_of_members : (views : List (List ℕ)) (set : List Bool) → length set ≡ 32 → holds set 0 ≡ false → ((p : ℕ) → holds set p ≡ is_member views p) → set ≡ members views
 set_of_members views set size none at = set_of_test (is_member views) set size (sym (at 0) ∙ none) at
+
+-- of flags of which none is set none is
+pub no_flag : (n q : ℕ) → slice_index_or (replicate n false) q false ≡ false
+no_flag zero q = refl
+no_flag (suc n) zero = refl
+no_flag (suc n) (suc q) = no_flag n q

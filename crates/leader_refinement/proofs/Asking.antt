@@ -4,6 +4,7 @@ use Rattle.std.proofs.Common.{◌≡◌, ◌⊎◌, inl, inr, ℕ, suc, ◌+◌,
 use Rattle.std.proofs.lemmas.Bool.{and_parts}
 use Rattle.std.proofs.lemmas.List.{append-nil}
 use Rattle.std.proofs.lemmas.List.Elements.{All-nil}
+use Rattle.std.proofs.Math.Numerals.{suc-eq-add-one}
 use Rattle.ens_base.specs.declared.entry.Entry.{Entry}
 use Rattle.ens_base.specs.declared.epoch.Epoch.{Epoch}
 use Rattle.ens_object.specs.declared.object.Object.{Object}
@@ -14,6 +15,7 @@ use Rattle.wire_frames.specs.declared.message.Message.TheVariants.{Get}
 use Rattle.phase_rows.specs.declared.phase.Seen.{Seen}
 use Rattle.phase_rows.specs.declared.phase.Seen.TheVariants as seens
 use Rattle.phase_rows.specs.declared.rules.KeyRule.TheVariants as key_rules
+use Rattle.phase_rows.proofs.Epochs.{same_epochs}
 use Rattle.abstract_protocol.specs.Ledger.{put}
 use Rattle.abstract_protocol.specs.Numbers.{epoch_number}
 use Rattle.abstract_protocol.specs.Protocol.{State, Step, IsRun, state_after}
@@ -46,7 +48,6 @@ use Rattle.leader_laws.specs.Moves.{IsLeaderMove}
 use Rattle.leader_laws.specs.Tables as theory
 use Rattle.leader_laws.specs.Tables.{Ghosts, Owed, Seat}
 use Rattle.leader_refinement.proofs.Base.{AreElsewhere, finish, no_move, rests_so, stands_elsewhere, stage_row, staged_fits, calm_staged, set_here, off_same, row_told}
-use Rattle.leader_refinement.proofs.Numbers.{plus_one, same_epochs}
 use Rattle.leader_refinement.proofs.Orders.{IsBetter, better_seen, better_fits, better_names}
 use Rattle.leading_laws.proofs.Votes.{answered_on, begun_on}
 use Rattle.leader_refinement.proofs.Votes.{answered_fewer, begun_fewer, sent_say}
@@ -177,7 +178,7 @@ module _ (g : Ghosts) (s : State) (laws : LeadersMove s) (key : List ℕ) (owed 
         (sent_up_to (is_other l.me l.fact.views) (Get l.fact.epoch (suc l.round) key) 31) (sent_say after_start s (is_other l.me l.fact.views) (Get l.fact.epoch (suc l.round) key) says 31)
 
     looked_so : Follows g s key owed l (asked (seens.Held entry object) key (record l { round = l.round + 1 }))
-    looked_so = subst (λ (n : ℕ). Follows g s key owed l (asked (seens.Held entry object) key (record l { round = n }))) (plus_one l.round) started_so
+    looked_so = subst (λ (n : ℕ). Follows g s key owed l (asked (seens.Held entry object) key (record l { round = n }))) (suc-eq-add-one l.round) started_so
 
   by_seen : (w : Waiting) → running key l.table.calls ≡ Some w → (seen : Seen) → LookSays s l.me key seen → LookNames g key seen → GoesOn g s key owed l (asked seen key (record l { round = l.round + 1 }))
   by_seen w is (seens.Held entry object) look names = inr (looked_so w is entry object look.0 look.1 look.2 names)

@@ -4,6 +4,7 @@ use Rattle.std.proofs.Common.{◌≡◌, inl, inr, ℕ, suc, ◌+◌, Bool, true
 use Rattle.std.proofs.lemmas.Bool.{and_parts}
 use Rattle.std.proofs.lemmas.List.{append-nil}
 use Rattle.std.proofs.lemmas.List.Elements.{All-nil}
+use Rattle.std.proofs.Math.Numerals.{suc-eq-add-one}
 use Rattle.ens_base.specs.declared.command.Command.{Command}
 use Rattle.ens_base.specs.declared.epoch.Epoch.{Epoch}
 use Rattle.ens_base.specs.declared.reply.Reply.{Reply}
@@ -17,6 +18,7 @@ use Rattle.register_model.specs.Registers.{outcome}
 use Rattle.register_model.specs.declared.note.Note.TheVariants.{Read}
 use Rattle.wire_frames.specs.declared.message.Message.TheVariants.{Check}
 use Rattle.phase_rows.specs.declared.phase.Then.TheVariants.{Stay}
+use Rattle.phase_rows.proofs.Epochs.{same_epochs}
 use Rattle.abstract_protocol.specs.Ledger.{put}
 use Rattle.abstract_protocol.specs.Book.{register_at}
 use Rattle.abstract_protocol.specs.Numbers.{epoch_number}
@@ -47,7 +49,6 @@ use Rattle.leader_laws.specs.Tables as theory
 use Rattle.leader_laws.specs.Tables.{Ghosts, Owed, Seat}
 use Rattle.leader_refinement.proofs.Answers.{answered_so, seat_owing, noted_base}
 use Rattle.leader_refinement.proofs.Base.{AreElsewhere, finish, with_row_too, no_move, rests_so, stands_elsewhere, stage_row, agree_running, staged_fits, calm_staged, set_here, off_same, row_told}
-use Rattle.leader_refinement.proofs.Numbers.{plus_one, same_epochs}
 use Rattle.leading_laws.proofs.Votes.{answered_on, begun_on}
 use Rattle.leader_refinement.proofs.Votes.{answered_fewer, begun_fewer, IsClosed, closed_quorum, sent_say}
 use Rattle.leader_refinement.specs.Seen.{known_of, voters, waiting_behind, row_parts, row_seen, table_of}
@@ -198,7 +199,7 @@ module _ (g : Ghosts) (s : State) (laws : LeadersMove s) (tables : TablesStay s)
 
     spent_or_not : (b : Bool) → GoesOn g s key owed l (if b then (with_task tasks.Nothing l, leaves) else check_now reply w key (record (with_task tasks.Nothing l) { round = l.round + 1 }))
     spent_or_not true = inl (record { why = inl refl; calls = refl; same = (refl, (refl, refl)) })
-    spent_or_not false = inr (subst (λ (n : ℕ). Follows g s key owed l (check_now reply w key (record (with_task tasks.Nothing l) { round = n }))) (plus_one l.round) (begins_so (state_of (begun l.fact.views l.me)) refl))
+    spent_or_not false = inr (subst (λ (n : ℕ). Follows g s key owed l (check_now reply w key (record (with_task tasks.Nothing l) { round = n }))) (suc-eq-add-one l.round) (begins_so (state_of (begun l.fact.views l.me)) refl))
 
   checked_so : (reply : Reply) → l.task ≡ tasks.Check reply → (call : Option Waiting) → running key l.table.calls ≡ call → GoesOn g s key owed l (checked_for call (tasks.Check reply) key (with_task tasks.Nothing l))
   checked_so reply task None is = absurd (subst (λ (call : Option Waiting). TaskHolds s l key (row_at key l.table.rows).known call (tasks.Check reply)) is (subst (λ (t : Pending). TaskHolds s l key (row_at key l.table.rows).known (running key l.table.calls) t) task work.task))

@@ -13,6 +13,7 @@ use Rattle.key_commands.specs.declared.verdict.Verdict.{Verdict}
 use Rattle.key_commands.specs.declared.verdict.Verdict.TheVariants.{Write}
 use Rattle.phase_rows.specs.Orders.{is_same}
 use Rattle.phase_rows.specs.declared.rules.KeyRule.TheVariants as key_rules
+use Rattle.phase_rows.proofs.Epochs.{same_epochs}
 use Rattle.joint_views.specs.Quorums.{is_quorum}
 use Rattle.quorum_round.specs.Rounds.{state_of}
 use Rattle.quorum_round.specs.declared.round.Round.{Round}
@@ -51,7 +52,7 @@ use Rattle.leader_laws.specs.Tables.{Ghosts, Owed, Seat}
 use Rattle.leader_refinement.proofs.Answers.{answered_so, seat_owing}
 use Rattle.leading_laws.proofs.Moves.{runs as runs_now}
 use Rattle.leader_refinement.proofs.Base.{finish, no_move, rests_so, tasked_so, knows_elsewhere, known_row, rows_fit, calm_known, set_here, set_off, same_elsewhere, off_same, row_told}
-use Rattle.leader_refinement.proofs.Numbers.{rank_back, same_epochs}
+use Rattle.leader_refinement.proofs.Numbers.{rank_back}
 use Rattle.leader_refinement.proofs.Puts.{gone_same}
 use Rattle.leader_refinement.proofs.Votes.{IsClosed, closed_quorum}
 use Rattle.leader_refinement.specs.Seen.{rank, content_of, content_or_none, known_of, best_rank, best_object, voters, waiting_behind, row_parts, table_of}

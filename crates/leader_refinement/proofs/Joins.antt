@@ -43,6 +43,7 @@ use Rattle.leader_laws.specs.Moves.{GhostsGrow, IsLeaderMove}
 use Rattle.leader_laws.specs.Tables as theory
 use Rattle.leader_laws.specs.Tables.{Ghosts, Owed}
 use Rattle.leading_laws.proofs.Joins.{none_before}
+use Rattle.leading_laws.proofs.Lookups.{nobody_waits}
 use Rattle.leader_refinement.proofs.Base.{Elsewhere, IsSplit, finish, no_move, task_here, set_here, set_off, calls_split}
 use Rattle.leader_refinement.specs.Seen.{ids_on, known_of, running_stage, waiting_behind, row_seen, task_on, table_of, owed_after}
 use Rattle.leader_refinement.specs.Follows.{TaskHolds, IsAtWork, CallsAgree, IsReadyFor, NextFits, Follows, TakesCall, SentSays}
@@ -80,14 +81,6 @@ elsewhere_calls j (v ∷ calls) w off = by_key (same_bytes v.key j) (elsewhere_c
         → (cond b (Some v) (running j calls) ≡ cond b (Some v) (running j (calls ++ w ∷ []))) × ((cond b (ids_on j calls) (waiting_behind j calls) ≡ cond b (ids_on j (calls ++ w ∷ [])) (waiting_behind j (calls ++ w ∷ []))) × (cond b (v.id ∷ ids_on j calls) (ids_on j calls) ≡ cond b (v.id ∷ ids_on j (calls ++ w ∷ [])) (ids_on j (calls ++ w ∷ []))))
     by_key true later = (refl, (later.1.1, ap (λ (xs : List ℕ). v.id ∷ xs) later.1.1))
     by_key false later = later
-
-nobody_waits : (key : List ℕ) (calls : List Waiting) → waiting_on key calls ≡ 0 → running key calls ≡ None
-nobody_waits key [] e = refl
-nobody_waits key (v ∷ calls) e = by_key (same_bytes v.key key) e (nobody_waits key calls)
-  where
-    by_key : (b : Bool) → cond b (waiting_on key calls + 1) (waiting_on key calls) ≡ 0 → (waiting_on key calls ≡ 0 → running key calls ≡ None) → cond b (Some v) (running key calls) ≡ None
-    by_key true e later = absurd (omega (arith, e))
-    by_key false e later = later e
 
 -- ## A new call
 

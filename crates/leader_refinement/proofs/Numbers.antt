@@ -1,9 +1,7 @@
 -- Versions and their numbers.
-use Rattle.std.proofs.Common.{◌≡◌, ℕ, suc, ◌<◌, ◌+◌, true, false, ◌==◌, Option, Some, None, arith, refl, ap}
+use Rattle.std.proofs.Common.{◌≡◌, ◌<◌, false, ◌==◌, Option, Some, None, arith, refl, ap}
 use Rattle.std.proofs.lemmas.Bool.Decides.{nat_tests}
-use Rattle.ens_base.specs.declared.epoch.Epoch.{Epoch}
 use Rattle.ens_base.specs.declared.epoch.Version.{Version}
-use Rattle.phase_rows.specs.Orders.{is_same}
 use Rattle.abstract_protocol.specs.Numbers.{epoch_number, IsVersion}
 use Rattle.abstract_protocol.specs.Book.{version_of, version_or_none}
 use Rattle.call_table.specs.Rows.{base_of}
@@ -42,9 +40,3 @@ pub base_fits : (known : Known) → KnownFits known → MayBeVersion (base_of kn
 base_fits knowns.Unknown fits = tt
 base_fits knowns.Absent fits = tt
 base_fits (knowns.Present v stamp digest tombstone) fits = fits
-
-pub plus_one : (n : ℕ) → suc n ≡ n + 1
-plus_one n = omega arith
-
-pub same_epochs : (a b : Epoch) → is_same a b ≡ true → a ≡ b
-same_epochs a b h = grind (arith, nat_tests)

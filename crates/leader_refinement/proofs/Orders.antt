@@ -1,15 +1,14 @@
 -- The best of the replies of a round has the greatest version, and the object of a reply with it.
 use Rattle.std.specs.Prelude.{max}
-use Rattle.std.proofs.Common.{is_eq, List, ◌≡◌, ◌⊎◌, inl, inr, ℕ, ◌<◌, ◌+◌, ◌*◌, ◌^◌, Option, None, Some, arith, refl, sym, ap, subst, ◌∙◌}
+use Rattle.std.proofs.Common.{List, ◌≡◌, ◌⊎◌, inl, inr, ℕ, ◌<◌, ◌+◌, ◌*◌, ◌^◌, Option, None, Some, arith, refl, sym, ap, subst, ◌∙◌}
 use Rattle.std.proofs.lemmas.Bool.{cases_order}
-use Rattle.std.proofs.lemmas.Map.Text.{is_eq-slice_cmp}
+use Rattle.std.proofs.lemmas.Map.Lookups.{exact_bytes}
 use Rattle.std.specs.Ordering.{nat_cmp, ordering_then}
 use Rattle.std.specs.declared.cmp.Ordering.{Ordering}
 use Rattle.std.specs.declared.cmp.Ordering.TheVariants.{Less, Equal, Greater}
 use Rattle.ens_base.proofs.Orders.{cmp_less, cmp_greater, epochs_compared, ranks_compared}
 use Rattle.ens_base.specs.Epochs.{version_cmp}
 use Rattle.ens_base.specs.Lists.{bytes_cmp}
-use Rattle.ens_base.proofs.Lists.{bytes_same}
 use Rattle.ens_base.specs.declared.entry.Entry.{Entry}
 use Rattle.ens_base.specs.declared.epoch.Version.{Version}
 use Rattle.ens_object.specs.declared.object.Object.{Object}
@@ -118,13 +117,10 @@ both_equal Less b h = absurd cc
 both_equal Equal b h = (refl, h)
 both_equal Greater b h = absurd cc
 
-bytes_equal : (xs ys : List ℕ) → bytes_cmp xs ys ≡ Equal → xs ≡ ys
-bytes_equal xs ys h = bytes_same xs ys (sym (is_eq-slice_cmp xs ys) ∙ ap is_eq h)
-
 -- entries that compare as equal have one version and one digest
 equal_entries : (e f : Entry) → IsVersion e.version → IsVersion f.version → entry_cmp e f ≡ Equal → (e.version ≡ f.version) × (e.digest ≡ f.digest)
 equal_entries e f h k is = let parts = both_equal (version_cmp e.version f.version) (ordering_then (bytes_cmp e.digest f.digest) (bytes_cmp e.key f.key)) is in
-    (same_rank e.version f.version h k (nat_equal (rank e.version) (rank f.version) (sym (compared e.version f.version h k) ∙ parts.0)), bytes_equal e.digest f.digest (both_equal (bytes_cmp e.digest f.digest) (bytes_cmp e.key f.key) parts.1).0)
+    (same_rank e.version f.version h k (nat_equal (rank e.version) (rank f.version) (sym (compared e.version f.version h k) ∙ parts.0)), exact_bytes e.digest f.digest (both_equal (bytes_cmp e.digest f.digest) (bytes_cmp e.key f.key) parts.1).0)
 
 pub better_names : (hash : Hash) (key : List ℕ) (best : Option Found) (entry : Option Entry) (object : Option Object) → FoundFits best → EntryFits entry → FoundNames hash key best → FoundNames hash key (better None entry object) → FoundNames hash key (better best entry object)
 better_names hash key None None object fits entry_fits names new = tt

@@ -6,6 +6,7 @@ use Rattle.std.proofs.lemmas.List.Elements.{All-nil, All-cons, All-append}
 use Rattle.abstract_protocol.specs.Ledger.{put}
 use Rattle.ens_base.specs.PeerSet.{holds}
 use Rattle.joint_views.specs.Quorums.{is_member, is_quorum, has_every}
+use Rattle.joint_views.proofs.Sets.{no_flag}
 use Rattle.quorum_round.specs.Rounds.{answered, begun, state_of}
 use Rattle.quorum_round.specs.declared.round.Round.{Round}
 use Rattle.quorum_round.specs.declared.round.RoundState.{RoundState}
@@ -15,7 +16,7 @@ use Rattle.leader_words.specs.declared.out.Outgoing.{Outgoing}
 use Rattle.wire_frames.specs.declared.message.Message.{Message}
 use Rattle.abstract_protocol.specs.Protocol.{State}
 use Rattle.leader_laws.specs.Tables.{Ghosts}
-use Rattle.leading_laws.proofs.Votes.{none_held, set_then}
+use Rattle.leading_laws.proofs.Votes.{set_then}
 use Rattle.leader_refinement.specs.Seen.{voters}
 use Rattle.leader_refinement.specs.Follows.{SendSays, SentSays}
 use Rattle.version_laws.proofs.Maps.{put_here}
@@ -32,7 +33,7 @@ answered_then P round from here old q = by_member (is_member round.tally.views f
 
 pub begun_then : (P : ℕ → Type 0) (views : List (List ℕ)) (me : ℕ) → P me → (q : ℕ) → voters (begun views me) q ≡ true → P q
 unfolding begun
-begun_then P views me here = answered_then P (record { tally = record { views = views; votes = replicate 32 false } }) me here (λ q h. absurd (false≢true (sym (none_held 32 q) ∙ h)))
+begun_then P views me here = answered_then P (record { tally = record { views = views; votes = replicate 32 false } }) me here (λ q h. absurd (false≢true (sym (no_flag 32 q) ∙ h)))
 
 -- a reply counts at most for the peer that sent it
 pub answered_fewer : (round : Round) (from : ℕ) (q : ℕ) → voters (answered from round) q ≡ true → put (voters round) from true q ≡ true

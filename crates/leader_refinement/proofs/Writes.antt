@@ -2,6 +2,7 @@
 use Rattle.std.proofs.Common.{◌≡◌, inl, inr, ℕ, suc, ◌<◌, ◌+◌, ◌^◌, Bool, true, false, if◌then◌else◌, List, [], ◌∷◌, ◌++◌, Option, Some, None, arith, refl, sym, ap, subst, ◌∙◌}
 use Rattle.std.proofs.lemmas.Bool.Decides.{nat_tests}
 use Rattle.std.proofs.lemmas.List.Elements.{All-nil}
+use Rattle.std.proofs.Math.Numerals.{suc-eq-add-one}
 use Rattle.phase_rows.specs.declared.rules.KeyRule.TheVariants as key_rules
 use Rattle.ens_base.specs.declared.command.Command.{Command}
 use Rattle.ens_base.specs.declared.epoch.Version.{Version}
@@ -29,7 +30,7 @@ use Rattle.leader_laws.specs.Moves.{IsLeaderMove, put_write, write_step}
 use Rattle.leader_laws.specs.Tables as theory
 use Rattle.leader_laws.specs.Tables.{Ghosts, Owed}
 use Rattle.leader_refinement.proofs.Base.{finish, set_here, agree_running, row_told}
-use Rattle.leader_refinement.proofs.Numbers.{rank_back, option_back, plus_one}
+use Rattle.leader_refinement.proofs.Numbers.{rank_back, option_back}
 use Rattle.leader_refinement.specs.Seen.{rank, rank_or_none, content_of, known_of, waiting_behind, row_parts, table_of}
 use Rattle.leader_refinement.specs.Follows.{MayBeVersion, WriteHolds, RewriteHolds, TaskHolds, IsAtWork, Follows, GoesOn, SentSays}
 use Rattle.leader_refinement.specs.Laws.{noted_next, WritesGoOut, RewritesGoOut}
@@ -110,7 +111,7 @@ module _ (g : Ghosts) (s : State) (tables : TablesStay s) (key : List ℕ) (owed
 
     by_spent : LeadersMove s → (b : Bool) → is_spent l.seq ≡ b → GoesOn g s key owed l (noted_next key (if b then (with_task tasks.Nothing l, leaves) else (record l { seq = l.seq + 1; task = tasks.Propose (written_at l key content (l.seq + 1)) parent (Some w.id) }, leads_on key_rules.Put key)))
     by_spent laws true spent = inl (record { why = inl refl; calls = refl; same = (refl, (refl, refl)) })
-    by_spent laws false unspent = inr (subst (λ (n : ℕ). Follows g s key owed l (proposing l key n (written_at l key content n) parent (Some w.id))) (plus_one l.seq) (written_so laws unspent))
+    by_spent laws false unspent = inr (subst (λ (n : ℕ). Follows g s key owed l (proposing l key n (written_at l key content n) parent (Some w.id))) (suc-eq-add-one l.seq) (written_so laws unspent))
 
   -- ## Rule 32
 
@@ -125,7 +126,7 @@ module _ (g : Ghosts) (s : State) (tables : TablesStay s) (key : List ℕ) (owed
 
     again_by_spent : LeadersMove s → (b : Bool) → is_spent l.seq ≡ b → GoesOn g s key owed l (noted_next key (if b then (with_task tasks.Nothing l, leaves) else (record l { seq = l.seq + 1; task = tasks.Propose (again_at l key o (l.seq + 1)) (Some o.version) None }, leads_on key_rules.Put key)))
     again_by_spent laws true spent = inl (record { why = inl refl; calls = refl; same = (refl, (refl, refl)) })
-    again_by_spent laws false unspent = inr (subst (λ (n : ℕ). Follows g s key owed l (proposing l key n (again_at l key o n) (Some o.version) None)) (plus_one l.seq) (again_so laws unspent))
+    again_by_spent laws false unspent = inr (subst (λ (n : ℕ). Follows g s key owed l (proposing l key n (again_at l key o n) (Some o.version) None)) (suc-eq-add-one l.seq) (again_so laws unspent))
 
 module _ (g : Ghosts) (s : State) (laws : LeadersMove s) (tables : TablesStay s) (key : List ℕ) (owed : List Owed) (l : Leader) (work : IsAtWork g s key owed l) where
   -- a task needs a running call

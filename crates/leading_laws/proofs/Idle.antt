@@ -41,7 +41,7 @@ use Rattle.leading_laws.proofs.Moves.{IsStep}
 
 -- ## No call
 
-no_calls : (calls : List Waiting) → has_calls calls ≡ false → calls ≡ []
+pub no_calls : (calls : List Waiting) → has_calls calls ≡ false → calls ≡ []
 no_calls [] e = refl
 no_calls (w ∷ ws) e = absurd cc
 

@@ -6,7 +6,7 @@ use Rattle.std.specs.Map.{lookup}
 use Rattle.std.proofs.lemmas.Map.Text.{is_eq-slice_cmp}
 use Rattle.ens_base.specs.Lists.{bytes_cmp, same_bytes}
 use Rattle.ens_base.proofs.Lists.{bytes_same, bytes_itself}
-use Rattle.call_table.specs.Calls.{running, without_running}
+use Rattle.call_table.specs.Calls.{running, without_running, waiting_on}
 use Rattle.call_table.specs.Rows.{Rows, row_at, row_or_fresh, with_row, with_known, with_stage}
 use Rattle.call_table.specs.declared.row.KeyRow.{KeyRow}
 use Rattle.call_table.specs.declared.row.Known.{Known}
@@ -121,3 +121,16 @@ running_other key k (v ∷ calls) off = by_key (same_bytes v.key key) refl (runn
         let here : same_bytes v.key k ≡ false = subst (λ (q : List ℕ). same_bytes q k ≡ false) (sym (bytes_same v.key key on)) off in
         sym (ap (λ (b : Bool). cond b (Some v) (running k calls)) here)
     by_key false on later = ap (λ (o : Option Waiting). cond (same_bytes v.key k) (Some v) o) later
+
+pub known_here : (key : List ℕ) (known : Known) (rows : Rows) → (row_at key (with_known key known rows)).known ≡ known
+unfolding with_known
+known_here key known rows = ap (λ (row : KeyRow). row.known) (row_here key (record (row_at key rows) { known = known }) rows)
+
+-- where nobody waits on a key, no call on it runs
+pub nobody_waits : (key : List ℕ) (calls : List Waiting) → waiting_on key calls ≡ 0 → running key calls ≡ None
+nobody_waits key [] e = refl
+nobody_waits key (w ∷ calls) e = by_key (same_bytes w.key key) e (nobody_waits key calls)
+  where
+    by_key : (b : Bool) → cond b (waiting_on key calls + 1) (waiting_on key calls) ≡ 0 → (waiting_on key calls ≡ 0 → running key calls ≡ None) → cond b (Some w) (running key calls) ≡ None
+    by_key true h later = absurd (omega (arith, h))
+    by_key false h later = later h

@@ -2,7 +2,6 @@
 use Rattle.std.specs.Prelude.{All}
 use Rattle.std.proofs.Common.{◌≡◌, ◌≢◌, ◌≤◌, ◌+◌, ◌==◌, ◌&&◌, not, ap, sym, refl, lit≤, ℕ, zero, suc, None, Some, Bool, true, false, if◌then◌else◌, List, [], ◌∷◌, ◌∙◌, arith}
 use Rattle.std.proofs.lemmas.Bool.{true≢false}
-use Rattle.std.proofs.lemmas.Bool.Decides.{nat_tests}
 use Rattle.std.proofs.lemmas.List.Elements.{All-nil, All-cons, All-append}
 use Rattle.joint_views.specs.Quorums.{is_member}
 use Rattle.wire_frames.specs.PeerFact.{Fact}
@@ -12,9 +11,7 @@ use Rattle.leader_words.specs.Sends.{is_other, sent_up_to}
 use Rattle.leading_laws.specs.Steps.{MayGo}
 use Rattle.leading.specs.Ticks.{Finishing, finishing_message, tick_message, ticks_up_to}
 use Rattle.leading.specs.declared.leader.Leader.{Leader}
-
-pub itself : (p : ℕ) → (p == p) ≡ true
-itself p = grind (arith, nat_tests)
+use Rattle.ens_base.proofs.Tests.{itself}
 
 pub not_itself : (b : Bool) (p : ℕ) → (b && not (p == p)) ≡ false
 not_itself true p = rw (itself p) refl

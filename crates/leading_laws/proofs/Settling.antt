@@ -1,7 +1,6 @@
 -- A put settles by a quorum.
-use Rattle.std.proofs.Common.{◌≡◌, ◌∙◌, ◌&&◌, ap, sym, refl, subst, inl, inr, ℕ, Bool, true, false, is_none, if◌then◌else◌, List, [], ◌∷◌, ◌++◌, Option, Some, None, arith}
+use Rattle.std.proofs.Common.{◌≡◌, ◌∙◌, ◌&&◌, ap, sym, refl, subst, inl, inr, ℕ, Bool, true, false, is_none, if◌then◌else◌, List, [], ◌∷◌, ◌++◌, Option, Some, None}
 use Rattle.std.proofs.lemmas.Bool.{and_parts}
-use Rattle.std.proofs.lemmas.Bool.Decides.{nat_tests}
 use Rattle.ens_base.proofs.Orders.{version_same}
 use Rattle.ens_base.specs.Lists.{◌∈◌}
 use Rattle.ens_base.specs.Epochs.{same_version}
@@ -23,6 +22,7 @@ use Rattle.phase_rows.specs.declared.phase.Seen.{Seen}
 use Rattle.phase_rows.specs.declared.phase.Seen.TheVariants as seens
 use Rattle.phase_rows.specs.declared.rules.KeyRule.{KeyRule}
 use Rattle.phase_rows.specs.declared.rules.KeyRule.TheVariants as key_rules
+use Rattle.phase_rows.proofs.Epochs.{same_epochs}
 use Rattle.call_table.specs.Calls.{running}
 use Rattle.call_table.specs.Rows.{row_at}
 use Rattle.call_table.specs.declared.row.Stage.{Stage}
@@ -110,9 +110,6 @@ key_settles rule key seen l k version h =
     let parts = put_settles l l.task seen key k version refl (subst (λ (m : KeyRule). Settled k version ∈ (lead_row m key seen l).1.notes) is h) in (is, parts.0, parts.1)
 
 -- ## Replies
-
-same_epochs : (a b : Epoch) → is_same a b ≡ true → a ≡ b
-same_epochs a b h = grind (arith, nat_tests)
 
 stage_settles : (stage : Stage) (from : ℕ) (ballot : Epoch) (key : List ℕ) (version : Version) (l : Leader) (k : List ℕ) (settled : Version) → (row_at key l.table.rows).stage ≡ stage → CountsInOwnViews l
     → Settled k settled ∈ (acknowledged_by stage from ballot version key l).1.notes → (k ≡ key) × (settled ≡ version) × SettlesWith from ballot key version l

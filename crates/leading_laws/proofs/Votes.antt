@@ -1,21 +1,17 @@
 -- The peers that answered in a round.
-use Rattle.std.specs.Prelude.{replicate, slice_index_or, slice_set}
-use Rattle.std.proofs.Common.{◌≡◌, ℕ, zero, suc, Bool, true, false, ◌==◌, ◌||◌, if◌then◌else◌, eqb-true, List, arith, refl, sym, ◌∙◌, subst}
+use Rattle.std.specs.Prelude.{replicate, slice_set}
+use Rattle.std.proofs.Common.{◌≡◌, ℕ, Bool, true, false, ◌==◌, ◌||◌, if◌then◌else◌, eqb-true, List, arith, refl, sym, ◌∙◌, subst}
 use Rattle.std.proofs.lemmas.Bool.{eqb-false, false≢true}
 use Rattle.std.proofs.lemmas.Bool.Decides.{nat_tests}
 use Rattle.std.proofs.lemmas.List.{get_or-set_other}
 use Rattle.ens_base.specs.PeerSet.{holds}
+use Rattle.ens_base.proofs.Tests.{itself}
 use Rattle.joint_views.specs.Quorums.{is_quorum, is_member, has_every}
 use Rattle.joint_views.proofs.Majorities.{quorum_more}
+use Rattle.joint_views.proofs.Sets.{no_flag}
 use Rattle.quorum_round.specs.Rounds.{begun, answered as heard_from, state_of}
 use Rattle.quorum_round.specs.declared.round.Round.{Round}
 use Rattle.quorum_round.specs.declared.round.RoundState.TheVariants.{Open, Met, AllAnswered}
-use Rattle.leading_laws.proofs.Sends.{itself}
-
-pub none_held : (n q : ℕ) → slice_index_or (replicate n false) q false ≡ false
-none_held zero q = refl
-none_held (suc n) zero = refl
-none_held (suc n) (suc q) = none_held n q
 
 pub set_then : (P : ℕ → Type 0) (peer : ℕ) (votes : List Bool) → P peer → ((q : ℕ) → holds votes q ≡ true → P q) → (q : ℕ) → holds (slice_set votes peer true) q ≡ true → P q
 set_then P peer votes here old q h = by_same (peer == q) refl
@@ -35,7 +31,7 @@ answered_then P round from here old q = by_member (is_member round.tally.views f
 
 begun_then : (P : ℕ → Type 0) (views : List (List ℕ)) (me : ℕ) → P me → (q : ℕ) → holds (begun views me).tally.votes q ≡ true → P q
 unfolding begun
-begun_then P views me here = answered_then P (record { tally = record { views = views; votes = replicate 32 false } }) me here (λ q h. absurd (false≢true (sym (none_held 32 q) ∙ h)))
+begun_then P views me here = answered_then P (record { tally = record { views = views; votes = replicate 32 false } }) me here (λ q h. absurd (false≢true (sym (no_flag 32 q) ∙ h)))
 
 pub answered_on : (round : Round) (from : ℕ) → (heard_from from round).tally.views ≡ round.tally.views
 unfolding heard_from

@@ -1,6 +1,7 @@
 -- Which numbers are in a line, and the order in which they stand.
 use Rattle.std.proofs.Common.{◌≡◌, ◌<◌, ◌==◌, ◌||◌, refl, ap, sym, ◌∙◌, arith, ℕ, Bool, true, false, List, [], ◌∷◌, ◌++◌, length, drop}
 use Rattle.ens_base.specs.Lists.{is_in}
+use Rattle.ens_base.proofs.Lists.{is_in-push}
 use Rattle.std.specs.Prelude.{slice_index_or, if◌then◌else◌}
 use Rattle.std.proofs.lemmas.Bool.{or_left, or_right, eq-eqb, eqb-true, both_ways, cond-false}
 use Rattle.std.proofs.lemmas.Bool.Decides.{nat_tests}
@@ -9,11 +10,6 @@ use Rattle.network.specs.Lines.{Ascends, AreBelow, FrontWaits, from_waiting}
 -- the first number is in the line
 pub first_in : (n : ℕ) (ns : List ℕ) → is_in (n ∷ ns) n ≡ true
 first_in n ns = or_left _ _ (eq-eqb n n refl)
-
--- one more number
-pub is_in-push : (ns : List ℕ) (m n : ℕ) → is_in (ns ++ m ∷ []) n ≡ (is_in ns n || n == m)
-is_in-push [] m n = grind arith
-is_in-push (k ∷ ns) m n = let rest = is_in-push ns m n in grind arith
 
 pub Ascends-push : (ns : List ℕ) (n : ℕ) → Ascends ns → AreBelow n ns → Ascends (ns ++ n ∷ [])
 Ascends-push [] n ascending below = (λ m there. absurd (both_ways _ refl there), tt)

@@ -1,6 +1,7 @@
 -- The waiting messages are still in the lines when one more message is sent.
 use Rattle.std.proofs.Common.{◌≡◌, ◌<◌, ◌≤◌, ◌==◌, ◌&&◌, ◌||◌, refl, ap, sym, ◌∙◌, arith, subst, ⊎_elim, ℕ, zero, suc, Bool, true, false, List, [], ◌∷◌, ◌++◌, length, Option, None, Some}
 use Rattle.ens_base.specs.Lists.{is_in}
+use Rattle.ens_base.proofs.Lists.{is_in-push}
 use Rattle.std.specs.Prelude.{slice_get, slice_index_or, if◌then◌else◌}
 use Rattle.std.specs.Option.{option_map}
 use Rattle.std.proofs.lemmas.Bool.{and_parts, and_from, eq-eqb, eqb-true, or_left, or_right, or_cases, cond_both, cases_lt}
@@ -9,10 +10,10 @@ use Rattle.std.proofs.lemmas.Option.{none-some, same_Some, slice_get_within}
 use Rattle.wire_frames.specs.declared.frame.Frame.{Frame}
 use Rattle.network.specs.Lines.{line, line_of, AreBelow, Ascends, FrontWaits, Changes}
 use Rattle.network.specs.Representation.{AreInLine}
-use Rattle.network.proofs.Numbers.{is_in-push, Ascends-push}
+use Rattle.network.proofs.Numbers.{Ascends-push}
 use Rattle.network.proofs.Flags.{flag_stays, flag_was}
 
-last_is : (sent : List Frame) (f : Frame) → slice_get (sent ++ f ∷ []) (length sent) ≡ Some f
+pub last_is : (sent : List Frame) (f : Frame) → slice_get (sent ++ f ∷ []) (length sent) ≡ Some f
 last_is [] f = refl
 last_is (x ∷ xs) f = last_is xs f
 

@@ -1,8 +1,6 @@
 -- The position of the segment of a key.
-use Rattle.std.proofs.Common.{◌≡◌, ℕ, zero, suc, ◌+◌, ◌*◌, ◌/◌, ◌%◌, ◌<◌, ◌≤◌, ◌^◌, true, List, refl, ap, sym, subst, ◌∙◌, arith}
-use Rattle.std.specs.Prelude.{◌==◌}
-use Rattle.std.proofs.lemmas.Bool.Decides.{nat_tests}
-use Rattle.std.proofs.lemmas.Nat.{div-mul-add, mod-mul-add, mul-add-lt}
+use Rattle.std.proofs.Common.{◌≡◌, ℕ, zero, suc, ◌+◌, ◌<◌, ◌≤◌, ◌^◌, true, List, refl, ap, sym, subst, ◌∙◌, arith}
+use Rattle.std.proofs.lemmas.Nat.{mul-add-lt}
 use native.Mathlib.Nat.{pow-suc, pow-zero}
 use Rattle.md5.specs.Md5.{md5}
 use Rattle.tree_node.specs.declared.version.TreeVersion.{TreeVersion}
@@ -12,18 +10,11 @@ use Rattle.tree_node.specs.Positions.{IsPosition}
 use Rattle.tree_maps.specs.Forms.{Form, Laws, child}
 use Rattle.tree_maps.specs.Paths.{passes}
 use Rattle.tree_maps.specs.Sixteen.{form_of, nibble}
-use Rattle.tree_maps.proofs.Formats.{form_laws}
-use Rattle.synctree.proofs.Places.{width_is, depth_is, digit_is, position_of}
+use Rattle.tree_maps.proofs.Formats.{form_laws, place_position}
+use Rattle.synctree.proofs.Places.{width_is, depth_is, digit_is}
 use Rattle.node_faults.specs.Naming.{index_of, segment_place}
-
-same_itself : (n : ℕ) → (n == n) ≡ true
-same_itself n = grind (arith, nat_tests)
-
-child_div : (w i d : ℕ) → d < w → (w * i + d) / w ≡ i
-child_div w i d below = let turned : w * i + d ≡ i * w + d = omega arith in rw turned (div-mul-add i w d below)
-
-child_mod : (w i d : ℕ) → d < w → (w * i + d) % w ≡ d
-child_mod w i d below = let turned : w * i + d ≡ i * w + d = omega arith in rw turned (mod-mul-add i w d below)
+use Rattle.tree_repair.proofs.Indexes.{quotient, remainder}
+use Rattle.ens_base.proofs.Tests.{itself}
 
 module _ (F : Form) (laws : Laws F) where
   index_below : (key : List ℕ) (level : ℕ) → index_of F key level < F.width ^ level
@@ -33,10 +24,10 @@ module _ (F : Form) (laws : Laws F) where
   path_goes_on : (key : List ℕ) (level : ℕ) → passes F key level (index_of F key level) ≡ true
   path_goes_on key zero = refl
   path_goes_on key (suc level) =
-      rw (child_div F.width (index_of F key level) (F.digit key level) (laws.in_width key level), child_mod F.width (index_of F key level) (F.digit key level) (laws.in_width key level), path_goes_on key level) (same_itself (F.digit key level))
+      rw (quotient F.width (index_of F key level) (F.digit key level) (laws.in_width key level), remainder F.width (index_of F key level) (F.digit key level) (laws.in_width key level), path_goes_on key level) (itself (F.digit key level))
 
 pub segment_position : (tree : TreeVersion) (key : List ℕ) → IsPosition tree (segment_place (form_of tree) key)
-segment_position tree key = position_of tree 0 (segment_place (form_of tree) key) (record { level = omega arith; index = index_below (form_of tree) (form_laws tree) key (form_of tree).depth })
+segment_position tree key = place_position tree 0 (segment_place (form_of tree) key) (record { level = omega arith; index = index_below (form_of tree) (form_laws tree) key (form_of tree).depth })
 
 pub segment_path : (tree : TreeVersion) (key : List ℕ) → passes (form_of tree) key (segment_place (form_of tree) key).level (segment_place (form_of tree) key).index ≡ true
 segment_path tree key = path_goes_on (form_of tree) (form_laws tree) key (form_of tree).depth

@@ -1,7 +1,7 @@
 -- Counts of faults and refusals along a plan.
 use Rattle.std.specs.Prelude.{Option, Some, None, if◌then◌else◌}
 use Rattle.std.proofs.Common.{◌≡◌, ◌≤◌, ◌++◌, ◌∷◌, [], ℕ, Bool, true, false, List, Result, inl, inr, ◌∙◌, ap, arith}
-use Rattle.ens_base.specs.Causes.{Rose}
+use Rattle.ens_base.proofs.Causes.{rose_later, same_count}
 use Rattle.ens_hashing.specs.Hashing.{Book}
 use Rattle.ens_outside.specs.Stores.{BackendCall, BackendAnswer, NodeCall, NodeAnswer}
 use Rattle.ens_outside.specs.declared.errors.StoreError.{StoreError}
@@ -25,18 +25,12 @@ use Rattle.peer_state.specs.declared.state.Mode.{Mode}
 use Rattle.peer_state.specs.declared.state.State.{State}
 use Rattle.peer_stores.specs.declared.stores.Stores.{Stores}
 
-same_count : {A : Type 0} (count : A → ℕ) (a b : A) → b ≡ a → count a ≤ count b
-same_count count a b e = omega (arith, ap count e)
-
 -- this error stopped the plan
 abbrev stop : PeerError → Ending State
 stop e = Stopped e
 
 stopped_injective : (e error : PeerError) → stop e ≡ stop error → e ≡ error
 stopped_injective e error same = grind (arith, same)
-
-rose_later : (a b c : ℕ) → a ≤ b → Rose b c → Rose a c
-rose_later a b c before rose = omega (arith, before, rose)
 
 -- a call that a start may make
 abbrev IsStartCall : Call → Type 0

@@ -1,6 +1,6 @@
 -- Why no task is left at the end of a step: each task lowers the number of tasks that can still run.
 use Rattle.std.specs.Option.{is_some}
-use Rattle.std.proofs.Common.{◌≡◌, ◌≤◌, ◌<◌, ◌+◌, ◌*◌, ◌^◌, ◌==◌, ◌&&◌, lit<, lit≤, mul-suc, mul-zero, ap, refl, sym, arith, length, map, ℕ, zero, suc, Bool, true, false, List, [], ◌∷◌, ◌++◌, Option, Some, None}
+use Rattle.std.proofs.Common.{◌≡◌, ◌≤◌, ◌<◌, ◌+◌, ◌*◌, ◌^◌, ◌==◌, ◌&&◌, lit<, lit≤, mul-suc, mul-zero, ap, refl, sym, arith, length, map, ℕ, zero, suc, Bool, true, false, List, [], ◌∷◌, ◌++◌, Option, Some, None, le_refl}
 use Rattle.leading.specs.CallTable.{has_calls}
 use Rattle.ens_base.specs.declared.entry.Entry.{Entry}
 use Rattle.ens_base.specs.declared.epoch.Epoch.{Epoch}
@@ -25,6 +25,7 @@ use Rattle.leading.specs.declared.pending.Pending.TheVariants as pendings
 use Rattle.leading_laws.proofs.Joins.{row_27_joins}
 use Rattle.leading_laws.proofs.Steps.{lead_step, row_29_reply_step, row_33_reply_step, row_35_reply_step, some_turns as some_key_turns}
 use Rattle.leading_laws.proofs.TimeOuts.{row_5_ticks}
+use Rattle.leading_laws.proofs.Moves.{room_at}
 use Rattle.peer_fact.specs.declared.fact.Change.{Change}
 use Rattle.peer_fact.specs.declared.fact.Change.TheVariants.{Add}
 use Rattle.peer_fact.specs.declared.fact.Fact.{Fact}
@@ -221,10 +222,7 @@ named_none (thens.SyncOn fact) is = absurd is
 
 -- ## The rows owe no more than before
 
-owed_self : (n : ℕ) → n ≤ n
-owed_self n = omega arith
-
-owed_none : (n : ℕ) → 0 ≤ n
+pub owed_none : (n : ℕ) → 0 ≤ n
 owed_none n = omega arith
 
 stopped_owed : (phase : Phase) → owed (stopped_leading phase) ≤ owed phase
@@ -235,7 +233,7 @@ stopped_owed (phases.Electing e) = lit≤ tt
 
 left_owed : (leave : Bool) (x : State) → owed (left leave x).phase ≤ owed x.phase
 left_owed true x = stopped_owed x.phase
-left_owed false x = owed_self (owed x.phase)
+left_owed false x = le_refl (owed x.phase)
 
 given_up_owed : (e : Election) → owed (without_candidacy (phases.Electing e)) ≤ 0
 given_up_owed (Starting new accepts age) = lit≤ tt
@@ -248,18 +246,18 @@ untrusted_owed (phases.Probing p) = lit≤ tt
 untrusted_owed (phases.Electing e) = given_up_owed e
 
 turned_owed : (me : ℕ) (t : Then) (x : State) → owed (turned me t x).phase ≤ owed x.phase
-turned_owed me thens.Stay x = owed_self (owed x.phase)
+turned_owed me thens.Stay x = le_refl (owed x.phase)
 turned_owed me thens.Follow x = owed_none (owed x.phase)
 turned_owed me (thens.Lead fact) x = owed_none (owed x.phase)
 turned_owed me thens.Untrust x = untrusted_owed x.phase
-turned_owed me thens.Put x = owed_self (owed x.phase)
-turned_owed me thens.Resume x = owed_self (owed x.phase)
-turned_owed me (thens.SyncOn fact) x = owed_self (owed x.phase)
-turned_owed me (thens.Rule n) x = owed_self (owed x.phase)
-turned_owed me (thens.OnKeys n) x = owed_self (owed x.phase)
+turned_owed me thens.Put x = le_refl (owed x.phase)
+turned_owed me thens.Resume x = le_refl (owed x.phase)
+turned_owed me (thens.SyncOn fact) x = le_refl (owed x.phase)
+turned_owed me (thens.Rule n) x = le_refl (owed x.phase)
+turned_owed me (thens.OnKeys n) x = le_refl (owed x.phase)
 
 waiting_phase_owed : (phase : Phase) → owed (waiting_phase phase) ≤ owed phase
-waiting_phase_owed (phases.Leading l) = owed_self (weight l.leader)
+waiting_phase_owed (phases.Leading l) = le_refl (weight l.leader)
 waiting_phase_owed (phases.Following f) = lit≤ tt
 waiting_phase_owed (phases.Probing p) = lit≤ tt
 waiting_phase_owed (phases.Electing e) = lit≤ tt
@@ -267,36 +265,36 @@ waiting_phase_owed (phases.Electing e) = lit≤ tt
 waiting_owed : (t : Then) (x : State) → owed (waiting_for t x).phase ≤ owed x.phase
 waiting_owed (thens.SyncOn fact) x = waiting_phase_owed x.phase
 waiting_owed thens.Resume x = waiting_phase_owed x.phase
-waiting_owed thens.Stay x = owed_self (owed x.phase)
-waiting_owed thens.Follow x = owed_self (owed x.phase)
-waiting_owed (thens.Lead fact) x = owed_self (owed x.phase)
-waiting_owed thens.Untrust x = owed_self (owed x.phase)
-waiting_owed thens.Put x = owed_self (owed x.phase)
-waiting_owed (thens.Rule n) x = owed_self (owed x.phase)
-waiting_owed (thens.OnKeys n) x = owed_self (owed x.phase)
+waiting_owed thens.Stay x = le_refl (owed x.phase)
+waiting_owed thens.Follow x = le_refl (owed x.phase)
+waiting_owed (thens.Lead fact) x = le_refl (owed x.phase)
+waiting_owed thens.Untrust x = le_refl (owed x.phase)
+waiting_owed thens.Put x = le_refl (owed x.phase)
+waiting_owed (thens.Rule n) x = le_refl (owed x.phase)
+waiting_owed (thens.OnKeys n) x = le_refl (owed x.phase)
 
 -- the row owes no more than before, where this phase owed no more
 abbrev OwesNoMore : State → State × PhaseOut → Type 0
 OwesNoMore x r = owed r.0.phase ≤ owed x.phase
 
 same_owed : (x : State) → owed x.phase ≤ owed x.phase
-same_owed x = owed_self (owed x.phase)
+same_owed x = le_refl (owed x.phase)
 
 stood_owes : (election : Option Election) (x : State) → owed (stood election x).phase ≤ owed x.phase
 stood_owes None x = same_owed x
 stood_owes (Some e) x = owed_none (owed x.phase)
 
 finishing_owes : (f : Option Finishing) (l : Leadership) → weight (finishing f l).leader ≤ weight l.leader
-finishing_owes None l = owed_self (weight l.leader)
-finishing_owes (Some f) l = owed_self (weight l.leader)
+finishing_owes None l = le_refl (weight l.leader)
+finishing_owes (Some f) l = le_refl (weight l.leader)
 
 begun_change_owes : (change : ChangeState) (l : Leadership) (fact : Fact) (me : ℕ) → weight (begun_change change l fact me).0.leader ≤ weight l.leader
 begun_change_owes (Wanted change) l fact me = finishing_owes (row_25 fact me l.leader.accepts change).1 l
-begun_change_owes Settled l fact me = owed_self (weight l.leader)
-begun_change_owes (Finishes f) l fact me = owed_self (weight l.leader)
+begun_change_owes Settled l fact me = le_refl (weight l.leader)
+begun_change_owes (Finishes f) l fact me = le_refl (weight l.leader)
 
 led_less : (l : Leadership) (x : State) → x.phase ≡ phases.Leading l → weight l.leader ≤ owed x.phase
-led_less l x is = rw is (owed_self (weight l.leader))
+led_less l x is = rw is (le_refl (weight l.leader))
 
 phase_row_owes : (rule : PhaseRule) (me : ℕ) (x : State) → OwesNoMore x (phase_row rule me x)
 phase_row_owes phase_rules.BeginProbing me x = owed_none (owed x.phase)
@@ -420,14 +418,11 @@ resumed_lowers : (k : ℕ) → 0 < k → (running : Option Running) (x : State) 
 resumed_lowers k some None x out next go = go [] x out (none_then k (owed x.phase) some)
 resumed_lowers k some (Some r) x out next go = go [] (with_sync (row_resume r).0 x) (and_sends out (row_resume r).1) (none_then k (owed x.phase) some)
 
-rule_then : (t k u : ℕ) → t < k → t + u < k + u
-rule_then t k u less = omega (arith, less)
-
 followed_on_lowers : (me k : ℕ) (t : Then) → then_turns t < k → (x : State) (out : Out) (next : Rest State (List Task)) → Lowers k x next → StepsAlone (followed_on me t x out next)
 followed_on_lowers me k (thens.SyncOn fact) few x out next go =
     asked_asks P ScanTree tt x out (λ scan y o. go_on me (row_start fact me y.trusted scan) y o next) (λ scan. go_on_lowers me k few (row_start fact me x.trusted scan) x out next go)
 followed_on_lowers me k thens.Resume few x out next go = resumed_lowers k few x.sync x out next go
-followed_on_lowers me k (thens.Rule n) few x out next go = go (named (thens.Rule n)) x out (rule_then (phase_turns n + 0) k (owed x.phase) few)
+followed_on_lowers me k (thens.Rule n) few x out next go = go (named (thens.Rule n)) x out (room_at (phase_turns n + 0) k (owed x.phase) few)
 followed_on_lowers me k (thens.OnKeys n) few x out next go = go [] x out (none_then k (owed x.phase) few)
 followed_on_lowers me k thens.Stay few x out next go = go [] x out (none_then k (owed x.phase) few)
 followed_on_lowers me k thens.Follow few x out next go = go [] x out (none_then k (owed x.phase) few)

@@ -1,9 +1,10 @@
 -- What a peer gives of a node obeys the grammar of frames, whatever bytes the node has.
-use Rattle.std.proofs.Common.{◌≡◌, ℕ, zero, suc, ◌≤◌, Bool, true, false, cond, List, [], ◌∷◌, length, take, Option, None, Some, Result, Ok, Err, refl, ap, arith}
+use Rattle.std.proofs.Common.{◌≡◌, ℕ, zero, suc, Bool, true, false, cond, List, [], ◌∷◌, length, take, Option, None, Some, Result, Ok, Err, refl, ap, arith}
 use Rattle.std.specs.Prelude.{IfOk, count_ones, ◌==◌}
 use Rattle.std.proofs.lemmas.Nat.{ones_le_self}
 use Rattle.ens_base.specs.declared.entry.Entry.{Entry}
 use Rattle.ens_base.specs.Results.{◌>>=◌}
+use Rattle.ens_base.proofs.Lists.{take_few}
 use Rattle.ens_fields.specs.declared.field_error.FieldError.{FieldError}
 use Rattle.ens_fields.specs.declared.field_error.FieldError.TheVariants as fields
 use Rattle.ens_fields.specs.Numbers.{byte_at, number_at, run_at}
@@ -129,12 +130,6 @@ segment_above tree asked bytes =
     (λ tag. test_holds (λ (x : Segment × ℕ). AreAbove [] x.0.entries) (tag.0 == segment_tag tree) (segment_fields_at tree asked bytes tag.1) _ (λ _. segment_fields_above tree asked bytes tag.1)))
 
 -- ## A page of it
-
--- a front has at most its length
-take_few : {A : Type 0} (n : ℕ) (xs : List A) → length (take n xs) ≤ n
-take_few zero xs = omega arith
-take_few (suc n) [] = omega arith
-take_few (suc n) (x ∷ xs) = omega (arith, take_few n xs)
 
 -- a front of ascending entries ascends
 take_above : (n : ℕ) (low : List ℕ) (es : List Entry) → AreAbove low es → AreAbove low (take n es)

@@ -1,8 +1,6 @@
 -- The messages of the rules obey the grammar of frames.
 use Rattle.std.specs.Prelude.{All, IfSome}
-use Rattle.std.proofs.Common.{◌≡◌, ◌≢◌, ◌≤◌, ◌+◌, ◌-◌, ◌^◌, ◌∙◌, ◌==◌, ◌&&◌, ◌||◌, not, ap, sym, refl, lit≤, ℕ, zero, suc, Bool, true, false, if◌then◌else◌, List, [], ◌∷◌, Option, Some, None, arith}
-use Rattle.std.proofs.lemmas.Bool.{true≢false}
-use Rattle.std.proofs.lemmas.Bool.Decides.{nat_tests}
+use Rattle.std.proofs.Common.{◌≡◌, ◌≢◌, ◌≤◌, ◌+◌, ◌-◌, ◌^◌, ◌∙◌, ◌==◌, ◌&&◌, ◌||◌, not, sym, refl, lit≤, ℕ, zero, suc, Bool, true, false, if◌then◌else◌, List, [], ◌∷◌, Option, Some, None, arith}
 use Rattle.std.proofs.lemmas.List.{get_or-replicate, get_or-set_other}
 use Rattle.std.proofs.lemmas.List.FromFn.{get_or-map-range_with_len}
 use Rattle.std.proofs.lemmas.List.Elements.{All-nil, All-cons, All-append}
@@ -13,6 +11,7 @@ use Rattle.phase_rows.specs.Orders.{is_below, is_same, is_newer, may_accept}
 use Rattle.phase_rows.specs.Peers.{nobody, alone, those, members, others_of, others_outside}
 use Rattle.peer_state.specs.Following.{refusal, unless_refused, takes, commits, row_16, row_18, row_19, row_20, row_2, Follower}
 use Rattle.ens_base.specs.declared.epoch.Epoch.{Epoch}
+use Rattle.ens_base.proofs.Tests.{itself}
 use Rattle.peer_fact.specs.declared.fact.Fact.{Fact}
 use Rattle.peer_state.specs.Probe.{row_8, Probing}
 use Rattle.peer_state.specs.Election.{row_11, row_15, row_3, row_10, promised_by, row_12, first_fact, starts, elected, row_13, row_4, row_14, row_17, Election, Preparing, Starting}
@@ -28,6 +27,7 @@ use Rattle.leader_words.specs.declared.out.Outgoing.{Outgoing}
 use Rattle.leading.proofs.Cases.{either}
 use Rattle.peer_plan.specs.Syncs.{and_sends}
 use Rattle.peer_plan.specs.Kept.{MaySend, AllMayGo}
+use Rattle.leading_laws.proofs.Sends.{not_itself, other_than}
 
 -- the message of a row, if there is one, obeys the grammar
 abbrev pub RowObeys : PhaseOut → Type 0
@@ -41,16 +41,13 @@ IsElsewhere me row = holds row.to me ≡ false
 abbrev pub MayGo : ℕ → PhaseOut → Type 0
 MayGo me row = RowObeys row × IsElsewhere me row
 
-not_to_me : (test : ℕ → Bool) (me p : ℕ) → test me ≡ false → test p ≡ true → p ≢ me
-not_to_me test me p none here same = let both : true ≡ false = sym here ∙ ap test same ∙ none in absurd (true≢false both)
-
 pub posted_may : (me : ℕ) (test : ℕ → Bool) (word : ℕ → Message) → test me ≡ false → ((p : ℕ) → Obeys (word p)) → (n : ℕ) → n ≤ 31 → All (MaySend me) (posted test word n)
 unfolding posted
 posted_may me test word none obey zero le = All-nil (MaySend me)
 posted_may me test word none obey (suc n) le = All-append (MaySend me) (posted test word n) _ (posted_may me test word none obey n (omega (arith, le))) (by_test (test (n + 1)) refl)
   where
     by_test : (t : Bool) → test (n + 1) ≡ t → All (MaySend me) (if t then record { to = n + 1; message = word (n + 1) } ∷ [] else [])
-    by_test true e = All-cons (MaySend me) (record { to = n + 1; message = word (n + 1) }) [] ((omega arith, omega (arith, le)), not_to_me test me (n + 1) none e, obey (n + 1)) (All-nil (MaySend me))
+    by_test true e = All-cons (MaySend me) (record { to = n + 1; message = word (n + 1) }) [] ((omega arith, omega (arith, le)), other_than test me (n + 1) none e, obey (n + 1)) (All-nil (MaySend me))
     by_test false e = All-nil (MaySend me)
 
 pub posted_to_may : (me : ℕ) (set : List Bool) (message : Option Message) → holds set me ≡ false → IfSome message Obeys → All (MaySend me) (posted_to set message)
@@ -71,13 +68,6 @@ alone_me me from peer other = get_or-set_other nobody from me true false (λ sam
 pub those_at : (test : ℕ → Bool) (p : ℕ) → IsPeer p → holds (those test) p ≡ test p
 those_at test zero peer = absurd (omega (arith, peer.0))
 those_at test (suc k) peer = get_or-map-range_with_len test 1 31 k (suc k) false (omega (arith, peer.1)) (omega arith)
-
-itself : (p : ℕ) → (p == p) ≡ true
-itself p = grind (arith, nat_tests)
-
-not_itself : (b : Bool) (p : ℕ) → (b && not (p == p)) ≡ false
-not_itself true p = rw (itself p) refl
-not_itself false p = refl
 
 not_itself_in : (b c : Bool) (p : ℕ) → (b && not (p == p) && c) ≡ false
 not_itself_in true c p = rw (itself p) refl

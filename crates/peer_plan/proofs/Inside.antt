@@ -14,11 +14,10 @@ use Rattle.synctree.specs.Plans.{Plan, Done, Broken, Ask, ◌>>=◌, Ends, Call 
 use Rattle.synctree.specs.Nodes.{child_name, name_at, is_node, node_bytes, node_under, node_plan}
 use Rattle.synctree.specs.Trees.{get_plan, insert_plan, publish_plan}
 use Rattle.synctree.specs.Walks.{verified, fetch, spelled, open_node, onward, find, reach, store, enter, set_top, from_top}
-use Rattle.synctree.proofs.Places.{position_of}
 use Rattle.tree_maps.specs.Entries.{put}
 use Rattle.tree_maps.specs.Forms.{IsPlace, child, root}
 use Rattle.tree_maps.specs.Sixteen.{form_of}
-use Rattle.tree_maps.proofs.Formats.{form_laws}
+use Rattle.tree_maps.proofs.Formats.{form_laws, place_position}
 use Rattle.tree_maps.proofs.Unique.{child_place, root_place}
 use Rattle.tree_node.specs.declared.position.Position.{Position}
 use Rattle.tree_node.specs.Positions.{IsPosition}
@@ -99,9 +98,9 @@ module _ (tree : TreeVersion) where
   below_place h at key place = child_place (form_of tree) h at ((form_of tree).digit key at.level) (digit_in key at.level) place
 
   find_inside : (h : ℕ) (at : Position) (digest key : List ℕ) → IsPlace (form_of tree) h at → IsInside tree (find (form_of tree) h at digest key)
-  find_inside zero at digest key place = then_inside (open_node ((form_of tree).segment_at at) at digest) _ (open_inside ((form_of tree).segment_at at) at digest (position_of tree zero at place)) (λ entries. tt)
+  find_inside zero at digest key place = then_inside (open_node ((form_of tree).segment_at at) at digest) _ (open_inside ((form_of tree).segment_at at) at digest (place_position tree zero at place)) (λ entries. tt)
   find_inside (suc h) at digest key place =
-      then_inside (open_node ((form_of tree).inner_at at) at digest) _ (open_inside ((form_of tree).inner_at at) at digest (position_of tree (suc h) at place))
+      then_inside (open_node ((form_of tree).inner_at at) at digest) _ (open_inside ((form_of tree).inner_at at) at digest (place_position tree (suc h) at place))
       (λ names. onward_inside None (λ below. find (form_of tree) h (child (form_of tree) at ((form_of tree).digit key at.level)) below key) (get_or names ((form_of tree).digit key at.level) None)
       (λ below. find_inside h (child (form_of tree) at ((form_of tree).digit key at.level)) below key (below_place h at key place)))
 
@@ -113,14 +112,14 @@ module _ (tree : TreeVersion) where
 
   enter_inside : (h : ℕ) (at : Position) (named : Option (List ℕ)) (e : Entry) → IsPlace (form_of tree) h at → IsInside tree (enter (form_of tree) h at named e)
   enter_inside zero at named e place =
-      then_inside (reach ((form_of tree).segment_at at) [] at named) _ (reach_inside ((form_of tree).segment_at at) [] at named (position_of tree zero at place)) (λ entries. store_inside ((form_of tree).segment_text at (put e entries)))
+      then_inside (reach ((form_of tree).segment_at at) [] at named) _ (reach_inside ((form_of tree).segment_at at) [] at named (place_position tree zero at place)) (λ entries. store_inside ((form_of tree).segment_text at (put e entries)))
   enter_inside (suc h) at named e place =
-      then_inside (reach ((form_of tree).inner_at at) (replicate (form_of tree).width None) at named) _ (reach_inside ((form_of tree).inner_at at) (replicate (form_of tree).width None) at named (position_of tree (suc h) at place))
+      then_inside (reach ((form_of tree).inner_at at) (replicate (form_of tree).width None) at named) _ (reach_inside ((form_of tree).inner_at at) (replicate (form_of tree).width None) at named (place_position tree (suc h) at place))
       (λ names. then_inside (enter (form_of tree) h (child (form_of tree) at ((form_of tree).digit e.key at.level)) (get_or names ((form_of tree).digit e.key at.level) None) e) _
       (enter_inside h (child (form_of tree) at ((form_of tree).digit e.key at.level)) (get_or names ((form_of tree).digit e.key at.level) None) e (below_place h at e.key place)) (λ below. store_inside ((form_of tree).inner_text at (set names ((form_of tree).digit e.key at.level) (Some below)))))
 
   root_inside : IsPosition tree root
-  root_inside = position_of tree (form_of tree).depth root (root_place (form_of tree))
+  root_inside = place_position tree (form_of tree).depth root (root_place (form_of tree))
 
   from_top_inside : {A : Type 0} (top : Option (List ℕ)) (next : List ℕ → Plan A) → ((digest : List ℕ) → IsInside tree (next digest)) → IsInside tree (from_top top next)
   from_top_inside None next inside = root_inside

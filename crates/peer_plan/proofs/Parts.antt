@@ -10,7 +10,7 @@ use Rattle.step_plans.proofs.Parts.{cut as cut_at, asked_did as asks}
 use Rattle.peer_plan.specs.Drives.{task_done, driven}
 use Rattle.peer_state.specs.declared.state.State.{State}
 
-one_turn : (turns turn : ℕ) → turn < turns → turns - turn ≡ suc (turns - (turn + 1))
+pub one_turn : (turns turn : ℕ) → turn < turns → turns - turn ≡ suc (turns - (turn + 1))
 one_turn turns turn lt = omega (arith, lt)
 
 pub driven_none : (me n : ℕ) (x : State) (out : Out) (next : Rest State (List Task)) → driven me n [] x out next ≡ next [] x out

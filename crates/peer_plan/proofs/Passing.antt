@@ -4,6 +4,7 @@ use Rattle.std.specs.Prelude.{All, OnOk}
 use Rattle.std.proofs.Common.{◌≡◌, ◌≢◌, ◌≤◌, ◌∙◌, lit≤, ℕ, zero, suc, Bool, true, false, not, nat_le, ◌&&◌, ◌==◌, if◌then◌else◌, List, [], ◌∷◌, ◌++◌, Option, Some, None, Result, Ok, Err, refl, inl, inr, subst, arith}
 use Rattle.std.proofs.lemmas.List.Elements.{All-nil, All-push, All-append}
 use Rattle.std.proofs.lemmas.Bool.Decides.{nat_tests}
+use Rattle.std.proofs.lemmas.Bool.{leb-true}
 use Rattle.ens_base.specs.View.{IsPeer}
 use Rattle.ens_base.specs.Views.{last_view}
 use Rattle.ens_base.specs.declared.entry.Entry.{Entry}
@@ -98,9 +99,6 @@ none_may me sends is = rw is (All-nil (MaySend me))
 
 one_may : (me : ℕ) (s : Outgoing) → MaySend me s → All (MaySend me) (s ∷ [])
 one_may me s may = All-push (MaySend me) [] s (All-nil (MaySend me)) may
-
-at_most : (a b : ℕ) → nat_le a b ≡ true → a ≤ b
-at_most a b test = grind (arith, nat_tests)
 
 apart : (a b : ℕ) → (a == b) ≡ false → a ≢ b
 apart a b test = λ same. grind (arith, nat_tests, test, same)
@@ -270,7 +268,7 @@ module _ (me : ℕ) (peer : IsPeer me) (P : State → Out → Type 0) where
       by_tests false low b high c other = All-nil (MaySend me)
       by_tests true low false high c other = All-nil (MaySend me)
       by_tests true low true high true other = All-nil (MaySend me)
-      by_tests true low true high false other = one_may me _ ((at_most 1 fact.leader low, at_most fact.leader 31 high), apart fact.leader me other, tt)
+      by_tests true low true high false other = one_may me _ ((leb-true 1 fact.leader low, leb-true fact.leader 31 high), apart fact.leader me other, tt)
 
   accepted_own_passes : (e : Election) → Passes (accepted_own me e)
   accepted_own_passes (Starting new accepts age) x out next good go = go (tasks.Phase phase_rules.EnoughAccepted ∷ []) (electing (Starting new (joined me accepts) age) x) out ((tt, good.0.1), good.1)

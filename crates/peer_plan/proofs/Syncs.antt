@@ -11,7 +11,7 @@ use Rattle.peer_state.specs.Moves.{without_sync}
 use Rattle.peer_plan.specs.Syncs.{and_sends, by_outcome, go_on}
 use Rattle.peer_state.specs.declared.state.State.{State}
 
-by_outcomeout : (me : ℕ) (r : Running) (outcome : Outcome) (x : State) (out : Out) (next : Rest State (List Task)) → by_outcome me r outcome (without_sync x) out next ≡ by_outcome me r outcome x out next
+pub by_outcomeout : (me : ℕ) (r : Running) (outcome : Outcome) (x : State) (out : Out) (next : Rest State (List Task)) → by_outcome me r outcome (without_sync x) out next ≡ by_outcome me r outcome x out next
 by_outcomeout me r Pending x out next = refl
 by_outcomeout me r (Trusted entries) x out next = refl
 

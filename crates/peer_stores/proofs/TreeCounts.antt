@@ -4,6 +4,7 @@ use Rattle.std.proofs.Common.{◌≡◌, ◌≤◌, ℕ, Bool, true, false, List
 use Rattle.std.specs.Prelude.{if◌then◌else◌}
 use Rattle.ens_base.specs.Causes.{Rose}
 use Rattle.ens_base.specs.declared.entry.Entry.{Entry}
+use Rattle.ens_base.proofs.Causes.{rose_later, same_count}
 use Rattle.ens_hashing.specs.Hashing.{Book}
 use Rattle.ens_outside.specs.Stores.{NodeCall, NodeAnswer, Top, BackendCall, BackendAnswer}
 use Rattle.ens_outside.specs.declared.errors.StoreError.{StoreError}
@@ -33,9 +34,6 @@ use Rattle.peer_stores.specs.Stores.{stores_do, stores_refuse, TreeAlone, TreeLa
 use Rattle.peer_plan.specs.TreeCalls.{Walks, Halts, has_position, position_plan, heard, peer_error}
 use Rattle.peer_stores.specs.declared.stores.Stores.{Stores}
 use Rattle.peer_plan.proofs.Whole.{never_broken, scan_whole, rebuild_whole}
-
-same_count : {A : Type 0} (count : A → ℕ) (a b : A) → b ≡ a → count a ≤ count b
-same_count count a b e = omega (arith, ap count e)
 
 -- no count of the nodes or of the hasher decreased
 pub record CountsLater {N H : Type 0} (n : N → ℕ) (c d : H → ℕ) (s t : N × H) : Type 0 where
@@ -72,9 +70,6 @@ module _ {N H : Type 0} (reads : N → (call : NodeCall) → NodeAnswer call →
   do_later : (s : N × H) (call : Call) (a : AnswerOf call) (t : N × H) → Does s call a t → CountsLater n c d s t
   do_later s (Node call) a t did = record { nodes = did.2; clashes = same_count c s.1 t.1 did.3; fulls = same_count d s.1 t.1 did.3 }
   do_later s (Hash bytes) a t did = record { nodes = same_count n s.0 t.0 did.0; clashes = did.2; fulls = did.3 }
-
-  rose_later : (before between now : ℕ) → before ≤ between → Rose between now → Rose before now
-  rose_later before between now later rose = omega (arith, later, rose)
 
   cause_later : (s u t : N × H) (e : TreeError) → CountsLater n c d s u → IsTreeCause n c d u e t → IsTreeCause n c d s e t
   cause_later s u t (trees.Damaged at) later cause = cause

@@ -32,12 +32,6 @@ pub writes_no_fault : (source : Option (List ℕ)) (status : Status) (text : Lis
 writes_no_fault source Status.WriteFault text prints is = prints
 writes_no_fault source status text prints is = cc is
 
-pub not_done : ◌≡◌ {A = Status} Status.Memory Status.Done → ⊥
-not_done is = cc is
-
-pub not_read_fault : ◌≡◌ {A = Status} Status.Memory Status.ReadFault → ⊥
-not_read_fault is = cc is
-
 -- bytes that are a record have no bad line, and are within the limit on lines
 not_refused : (source : Option (List ℕ)) (e : AuditError) → IsSomeAnd source IsAuditable → IfSome source (λ bytes. record_of bytes ≡ Err e) → ⊥
 not_refused None e free bad = free

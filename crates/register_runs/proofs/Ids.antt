@@ -3,6 +3,7 @@ use Rattle.std.proofs.Common.{◌≡◌, ◌≢◌, ℕ, zero, suc, ◌+◌, ◌
 use Rattle.std.specs.Prelude.{slice_get, IfSome, IfNone, is_some, nat_eq, ◌↔◌}
 use Rattle.std.proofs.lemmas.Bool.{eq-eqb, true≢false, ltb-false}
 use Rattle.std.proofs.lemmas.List.{take_more}
+use Rattle.std.proofs.lemmas.Option.{same_Some}
 use Rattle.ens_base.specs.Lists.{◌∈◌, AreDistinct}
 use Rattle.ens_base.specs.declared.reply.Reply.{Reply}
 use Rattle.register_model.specs.Histories.{IsDone, MayHave}
@@ -18,13 +19,10 @@ one_of f (z ∷ zs) x y d (inl ex) (inr hy) e = absurd (d.0 (let P : ℕ → Typ
 one_of f (z ∷ zs) x y d (inr hx) (inl ey) e = absurd (d.0 (let P : ℕ → Type 0 = λ n. n ∈ map f zs in subst P (e ∙ ap f ey) (in-map f zs x hx)))
 one_of f (z ∷ zs) x y d (inr hx) (inr hy) e = one_of f zs x y d.1 hx hy e
 
-some_is : {A : Type 0} (x y : A) → Some x ≡ Some y → x ≡ y
-some_is x y e = cc
-
 -- the item at the position of a name
 pub at_name : {A : Type 0} (f : A → ℕ) (xs : List A) (place n : ℕ) (x : A) → slice_get (map f xs) place ≡ Some n → x ≡ get_or xs place x → (x ∈ xs) × (f x ≡ n)
 at_name f [] place n x e g = absurd cc
-at_name f (y ∷ ys) zero n x e g = (inl g, ap f g ∙ some_is (f y) n e)
+at_name f (y ∷ ys) zero n x e g = (inl g, ap f g ∙ same_Some (f y) n e)
 at_name f (y ∷ ys) (suc place) n x e g = let later = at_name f ys place n x e g in (inr later.0, later.1)
 
 pub no_place : {A : Type 0} (f : A → ℕ) (xs : List A) (place n : ℕ) → slice_get (map f xs) place ≡ Some n → length xs ≤ place → ⊥
@@ -48,7 +46,7 @@ module _ (find next : ℕ → Option ℕ) (ids : List ℕ) (n d : ℕ) (lt : n <
   found_next id place true t e =
       let here : Some n ≡ Some place = sym (updates id ∙ ap (λ c. cond c (Some n) (find id)) t) ∙ e in
       let at : get_or ids n d ≡ id = eqb-true (get_or ids n d) id t in
-      ap (λ (k : ℕ). slice_get ids k) (sym (some_is n place here)) ∙ get_at ids n d lt ∙ ap (λ (k : ℕ). Some k) at
+      ap (λ (k : ℕ). slice_get ids k) (sym (same_Some n place here)) ∙ get_at ids n d lt ∙ ap (λ (k : ℕ). Some k) at
   found_next id place false t e = old.found id place (sym (updates id ∙ ap (λ c. cond c (Some n) (find id)) t) ∙ e)
 
   missing_next : (id : ℕ) (b : Bool) → nat_eq (get_or ids n d) id ≡ b → next id ≡ None → ¬ (id ∈ take (n + 1) ids)

@@ -1,2 +1,2 @@
 -- What the crates above name of leader_refinement, passed on.
-pub use Rattle.leader_refinement.proofs.Numbers.{rank_some, same_epochs}
+pub use Rattle.leader_refinement.proofs.Numbers.{rank_some}

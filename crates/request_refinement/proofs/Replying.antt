@@ -18,6 +18,7 @@ use Rattle.phase_rows.specs.declared.phase.PhaseOut.{PhaseOut}
 use Rattle.phase_rows.specs.declared.phase.Seen.{Seen}
 use Rattle.phase_rows.specs.declared.phase.Seen.TheVariants as seens
 use Rattle.phase_rows.specs.declared.phase.Then.TheVariants.{Stay, Put}
+use Rattle.phase_rows.proofs.Epochs.{same_epochs}
 use Rattle.following.specs.Refusals.{refusal, unless_refused}
 use Rattle.following.specs.Requests.{row_20, gets, row_21, is_version_below, acknowledges, puts_over, puts_at, puts, row_22}
 use Rattle.abstract_protocol.specs.Numbers.{epoch_number, IsEpoch}
@@ -28,7 +29,6 @@ use Rattle.leader_laws.specs.Laws.{PeersReply}
 use Rattle.leader_laws.specs.Leaders.{TurnsHold, IsObjectOf}
 use Rattle.leader_laws.specs.Messages.{GetSays, CheckSays, PutSays, GetReplySays}
 use Rattle.leader_laws.specs.Tables.{Ghosts}
-use Rattle.leader_refinement.proofs.Numbers.{same_epochs}
 use Rattle.leader_refinement.specs.Seen.{rank, content_of, entry_rank, shown}
 use Rattle.kept_objects.specs.Kept.{entry_of}
 use Rattle.request_refinement.proofs.Lookups.{lookup_in}

@@ -2,6 +2,7 @@
 use Rattle.std.proofs.Common.{◌≡◌, ℕ, zero, suc, ◌+◌, ◌<◌, ◌≤◌, ◌^◌, ◌==◌, ◌⊎◌, inl, inr, Bool, true, false, if◌then◌else◌, List, [], ◌∷◌, ◌++◌, length, map, drop, Option, Some, None, refl, sym, ap, subst, ◌∙◌, append_assoc, append-nil, length-append, arith}
 use Rattle.std.specs.Prelude.{filter}
 use Rattle.std.proofs.lemmas.Bool.{eq-eqb, eqb-true, le-ltb, lt-ltb}
+use Rattle.std.proofs.lemmas.List.{map-append}
 use Rattle.ens_base.specs.Lists.{◌∈◌}
 use Rattle.history_laws.specs.Parts.{numbered_answer}
 use Rattle.register_model.specs.declared.answer.Answer.{Answer}
@@ -22,7 +23,7 @@ use Rattle.root_runs.specs.Slots.{slot_of}
 use Rattle.root_runs.specs.Steps.{Branch, GrowByLine, Roots, at_first, in_ensemble, in_root, in_slot, open_lines, open_slot, open_told, opened_at, printed_next, refusal, roots_after, said, step, steps}
 use Rattle.root_runs.specs.Worlds.{Worlds, answers_in}
 use Rattle.root_runs.proofs.Sources.{answers_told}
-use Rattle.root_runs.proofs.Told.{answers_append, line_elsewhere, line_here, lines_append, lines_few, lines_from_on, map_append, told_append, told_behind, told_is, told_late, told_none, told_one, without_above, without_below}
+use Rattle.root_runs.proofs.Told.{answers_append, line_elsewhere, line_here, lines_append, lines_few, lines_from_on, told_append, told_behind, told_is, told_late, told_none, told_one, without_above, without_below}
 
 -- ---- numbers and slots
 
@@ -203,7 +204,7 @@ module _ (worlds : Worlds) (s : RootScript) (growing : GrowByLine worlds) (bound
   more_events : (n : ℕ) (e : Ensemble) (done : List RootEvent) (x : RootEvent) → same_ensemble (ensemble_of x) e ≡ true
       → events_of (lines_from n e (done ++ x ∷ [])) ≡ events_of (lines_from n e done) ++ own_event x ∷ []
   more_events n e done x same =
-      ap events_of (more_lines n e done x same) ∙ map_append (λ (l : Line). l.event) (lines_from n e done) (record { number = n + length done; event = own_event x } ∷ [])
+      ap events_of (more_lines n e done x same) ∙ map-append (λ (l : Line). l.event) (lines_from n e done) (record { number = n + length done; event = own_event x } ∷ [])
 
   -- the lines of a slot behind its opening, with one event more
   behind_more : (k : ℕ) (slot : ℕ) (done : List RootEvent) (x : RootEvent) → k ≤ length done → same_ensemble (ensemble_of x) (Slot slot) ≡ true

@@ -5,7 +5,7 @@ use Rattle.std.proofs.lemmas.Bool.Decides.{nat_tests}
 use Rattle.ens_base.specs.Lists.{◌∈◌}
 use Rattle.ens_base.specs.declared.command.Command.{Command}
 use Rattle.ens_base.specs.declared.reply.Reply.{Reply}
-use Rattle.ens_base.proofs.Lists.{in-map, in_append}
+use Rattle.ens_base.proofs.Lists.{in-map, in_append, from_map}
 use Rattle.history_laws.specs.Parts.{numbered_answer, numbered_call}
 use Rattle.history_laws.proofs.Openings.{one_call}
 use Rattle.history_record.specs.Calls.{calls_from}
@@ -30,11 +30,6 @@ use Rattle.root_runs.proofs.Calls.{calls_above, not_both, root_calls, routed_beh
 use Rattle.root_runs.proofs.Lines.{line_calls, lines_ascend, own_calls}
 
 -- ---- answers among what was printed
-
-pub from_map : {A B : Type 0} (f : A → B) (xs : List A) (y : B) → y ∈ map f xs → (x : A) × (x ∈ xs) × (y ≡ f x)
-from_map f [] y h = absurd h
-from_map f (x ∷ xs) y (inl e) = (x, inl refl, e)
-from_map f (x ∷ xs) y (inr h) = let later = from_map f xs y h in (later.0, inr later.1, later.2)
 
 printed_answer : (ps : List Printed) (a : Answer) → a ∈ answers_in ps → printed.Answer a ∈ ps
 printed_answer [] a m = absurd m

@@ -3,6 +3,7 @@ use Rattle.std.proofs.Common.{◌≡◌, ℕ, ◌+◌, ◌<◌, ◌≤◌, ◌^�
 use Rattle.std.specs.Prelude.{All, filter}
 use Rattle.std.proofs.lemmas.Bool.Decides.{nat_tests}
 use Rattle.std.proofs.lemmas.List.Elements.{All-head, All-tail}
+use Rattle.std.proofs.lemmas.List.{map-append}
 use Rattle.ens_base.specs.Lists.{◌∈◌}
 use Rattle.ens_base.proofs.Lists.{in_append}
 use Rattle.register_model.specs.declared.answer.Answer.{Answer}
@@ -16,10 +17,6 @@ use Rattle.root_runs.specs.Runs.{is_at, numbered, story_of, told_of}
 use Rattle.root_runs.specs.Steps.{GrowByLine, IsAt, printed_next}
 use Rattle.root_runs.specs.Worlds.{Worlds, answers_in}
 use Rattle.root_runs.proofs.Lines.{Numbers, own_numbers}
-
-pub map_append : {A B : Type 0} (f : A → B) (xs ys : List A) → map f (xs ++ ys) ≡ map f xs ++ map f ys
-map_append f [] ys = refl
-map_append {B = B} f (x ∷ xs) ys = ap (λ (l : List B). f x ∷ l) (map_append f xs ys)
 
 pub filter_append : {A : Type 0} (p : A → Bool) (xs ys : List A) → filter p (xs ++ ys) ≡ filter p xs ++ filter p ys
 filter_append p [] ys = refl
@@ -221,7 +218,7 @@ module _ (worlds : Worlds) (peers : ℕ) (view : List ℕ) where
         let before : List Printed = (worlds peers view done).printed in
         let new : List Printed = printed_next worlds peers view done l.event in
         ap (λ (d : List ScheduleEvent). map (numbered f) (worlds peers view d).printed) (sym (append_assoc done (l.event ∷ []) (events_of ls))) ∙ told_from f next ls later (subst From (sym count) h.1)
-        ∙ ap (λ (ps : List Printed). map (numbered f) ps ++ told_behind next ls) (growing.grow peers view done l.event) ∙ ap (λ (ps : List Printed). ps ++ told_behind next ls) (map_append (numbered f) before new)
+        ∙ ap (λ (ps : List Printed). map (numbered f) ps ++ told_behind next ls) (growing.grow peers view done l.event) ∙ ap (λ (ps : List Printed). ps ++ told_behind next ls) (map-append (numbered f) before new)
         ∙ ap (λ (ps : List Printed). (map (numbered f) before ++ ps) ++ told_behind next ls) (renumber f (length done + 1) l.number new (growing.at peers view done l.event less) h.0)
         ∙ append_assoc (map (numbered f) before) (map (numbered (λ n. l.number)) new) (told_behind next ls)
 

@@ -1,16 +1,13 @@
 -- The ids of the calls of a list of events.
-use Rattle.std.proofs.Common.{◌≡◌, ℕ, ◌==◌, inl, inr, true, false, List, [], ◌∷◌, ◌++◌, Option, Some, None, refl, ap, arith, append-nil}
+use Rattle.std.proofs.Common.{◌≡◌, ℕ, ◌==◌, inl, inr, true, false, List, [], ◌∷◌, ◌++◌, Option, Some, None, refl, ap, append-nil}
 use Rattle.std.proofs.lemmas.Bool.{or_parts}
-use Rattle.std.proofs.lemmas.Bool.Decides.{nat_tests}
 use Rattle.std.specs.List.{list_any}
 use Rattle.ens_base.specs.Lists.{AreDistinct, ◌∈◌}
+use Rattle.ens_base.proofs.Tests.{itself}
 use Rattle.root_script.specs.Progress.{came_before, has_id, id_of, is_id, is_repeated}
 use Rattle.root_script.specs.Spelling.{ids_of, with_id}
 use Rattle.root_script.specs.declared.event.RootEvent.{RootEvent}
 use Rattle.schedule_text.proofs.Ids.{distinct_end}
-
-same : (n : ℕ) → (n == n) ≡ true
-same n = grind (arith, nat_tests)
 
 -- an id that did not come before is not among those that did
 not_among : (id : ℕ) (events : List RootEvent) → list_any (has_id id) events ≡ false → id ∈ ids_of events → ⊥
@@ -21,7 +18,7 @@ not_among id (event ∷ more) h m =
   where
     by : (o : Option ℕ) → is_id id o ≡ false → id ∈ with_id o (ids_of more) → (id ∈ ids_of more → ⊥) → ⊥
     by None e m later = later m
-    by (Some i) e (inl is) later = let is_same : (i == id) ≡ true = rw is (same i) in cc (is_same, e)
+    by (Some i) e (inl is) later = let is_same : (i == id) ≡ true = rw is (itself i) in cc (is_same, e)
     by (Some i) e (inr m) later = later m
 
 ids_of-end : (events : List RootEvent) (event : RootEvent) → ids_of (events ++ event ∷ []) ≡ ids_of events ++ with_id (id_of event) []

@@ -26,7 +26,8 @@ use Rattle.world_spec.specs.Nodes.{Node, Up, Down, taken, taken_by, run_over, st
 use Rattle.world_spec.specs.Runs.{Run, mode_at, next_event, answer_line, change_line, printed_by, place_of, stepped_at, stepped, changed_at, changed, may_deepen, deepened, with_deepening, ticked, received, without_waiting, received_if, delivered, delivered_if, going_on, calmed}
 use Rattle.world_spec.specs.Stores.{failing, leaves_of, spoiled, segment_spoiled, inner_spoiled, taken_back}
 use Rattle.run_laws.proofs.Replied.{HasReplies, step_replies}
-use Rattle.run_laws.proofs.Told.{Follow, itself}
+use Rattle.run_laws.proofs.Told.{Follow}
+use Rattle.ens_base.proofs.Tests.{itself}
 
 -- ## Lines that may follow each other
 

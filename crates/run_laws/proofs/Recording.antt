@@ -12,6 +12,8 @@ use Rattle.call_refinement.specs.Lines.{AreLegal, answers_in, calls_from}
 use Rattle.ens_base.specs.Limits.{IsKey}
 use Rattle.ens_base.specs.Lists.{◌∈◌, AreDistinct}
 use Rattle.ens_base.specs.declared.status.Status.{Status}
+use Rattle.ens_base.proofs.Tests.{itself}
+use Rattle.ens_base.proofs.Lists.{from_map}
 use Rattle.entry_laws.proofs.Replies.{run_entries}
 use Rattle.held_stores.specs.Held.{HasNoClash}
 use Rattle.history_audit.specs.Reports.{IsReport}
@@ -48,7 +50,7 @@ use Rattle.run_laws.proofs.Keys.{called_keys, keys_called, keys_rise}
 use Rattle.run_laws.proofs.Printing.{PrintsOn, called_in, run_prints}
 use Rattle.run_laws.proofs.Standing.{HasBook, few_events, has_book}
 use Rattle.run_laws.proofs.Timely.{replies_fit, run_timely}
-use Rattle.run_laws.proofs.Told.{AreTold, Follow, IsTimely, itself, text_read}
+use Rattle.run_laws.proofs.Told.{AreTold, Follow, IsTimely, text_read}
 use Rattle.run_laws.specs.Recorded.{IsFaultless, IsWellRecorded}
 
 -- ## The calls of a schedule
@@ -119,11 +121,6 @@ faultless r report legal is =
 all_from : {A : Type 0} (P : A → Type 0) (xs : List A) → ((x : A) → x ∈ xs → P x) → AllByRecursion P xs
 all_from P [] h = tt
 all_from P (x ∷ xs) h = (h x (inl refl), all_from P xs (λ y m. h y (inr m)))
-
-from_map : {A B : Type 0} (f : A → B) (xs : List A) (y : B) → y ∈ map f xs → (x : A) × (x ∈ xs) × (y ≡ f x)
-from_map f [] y m = absurd m
-from_map f (x ∷ xs) y (inl e) = (x, inl refl, e)
-from_map f (x ∷ xs) y (inr m) = let r = from_map f xs y m in (r.0, inr r.1, r.2)
 
 lines_fit : (peers : ℕ) (events : List ScheduleEvent) (low high : ℕ) (printed : List Printed) → peers ≤ 31 → length events < 2 ^ 32 → AllMayStand peers events → Follow (change_peer 1 events) low high printed
     → ((a : Answer) → a ∈ answers_in printed → LineFits (lines.Answer a)) → AllByRecursion LineFits printed

@@ -1,12 +1,12 @@
 -- A schedule, the line `answers`, lines that may follow each other, and the histories, are read as a record.
 use Rattle.std.proofs.Common.{◌≡◌, ℕ, ◌+◌, ◌≤◌, ◌==◌, Bool, true, false, if◌then◌else◌, List, [], ◌∷◌, ◌++◌, length, codes, map, Option, Some, Result, Ok, Err, refl, sym, ap, subst, ◌∙◌, inl, inr, arith, lit≤, append_assoc, append-nil}
-use Rattle.std.proofs.lemmas.Bool.Decides.{nat_tests}
 use Rattle.call_refinement.specs.Lines.{answers_in}
 use Rattle.std.proofs.lemmas.List.Concat.{flat_map-append}
 use Rattle.std.proofs.lemmas.Bool.{ne_eqb, le-ltb}
 use Rattle.std.specs.Fmt.{decimal}
 use Rattle.std.specs.List.{AllByRecursion, flat_map, list_any}
 use Rattle.ens_base.proofs.Lists.{bytes_same, bytes_itself, in-map}
+use Rattle.ens_base.proofs.Tests.{itself}
 use Rattle.ens_base.specs.Lists.{◌∈◌, AreDistinct, same_bytes}
 use Rattle.register_model.specs.declared.answer.Answer.{Answer}
 use Rattle.register_model.specs.declared.history.History.{History}
@@ -142,9 +142,6 @@ schedule_read p (text ∷ more) next rest s h =
     taken (Before p) (Before q.0) text more answers_line (next ∷ rest) (schedule_line p q.0 text q.1) ∙ schedule_read q.0 more next rest s q.2
 
 -- ## The printed lines
-
-pub itself : (n : ℕ) → (n == n) ≡ true
-itself n = grind (arith, nat_tests)
 
 none_more : {A : Type 0} (test : A → Bool) (xs : List A) (x : A) → list_any test xs ≡ false → test x ≡ false → list_any test (xs ++ x ∷ []) ≡ false
 none_more test [] x h k = rw k refl

@@ -71,7 +71,7 @@ answered_is tree me view scan own give a p h = by (is_open a.stage)
     by true = stepped_is me view next.0 give.trusted next.1 a h (taken_places tree scan own give.question give.body a.ask p h.places)
     by false = h
 
-ask_is : (me : ℕ) (r : Running) (place : ℕ) (a : Asking) → AsksOthers me r → slice_get r.asks place ≡ Some a → IsOfOther me r.sync.view a
+pub ask_is : (me : ℕ) (r : Running) (place : ℕ) (a : Asking) → AsksOthers me r → slice_get r.asks place ≡ Some a → IsOfOther me r.sync.view a
 ask_is me r place a h e = subst (IsOfOther me r.sync.view) (get_or_from_slice_get r.asks place a a e) (h place a (slice_get_within r.asks place a e))
 
 -- the ask at a place after it took an answer

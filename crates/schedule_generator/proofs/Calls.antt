@@ -8,15 +8,11 @@ use Rattle.schedule_words.proofs.Ascending.{IsPeer-members, IsStrictlyIncreasing
 use Rattle.schedule_words.specs.Spelling.{AscendFrom}
 use Rattle.schedule_text.specs.Spelling.{IsSchedule, call_ids}
 use Rattle.schedule_text.specs.declared.event.ScheduleEvent.{ScheduleEvent}
-use Rattle.schedule_text.specs.declared.event.ScheduleEvent.TheVariants.{Call, Revert}
+use Rattle.schedule_text.specs.declared.event.ScheduleEvent.TheVariants.{Revert}
+use Rattle.schedule_text.proofs.Ids.{call_ids-append}
 use Rattle.schedule_generator.specs.Drawing.{gives}
 use Rattle.schedule_generator.specs.Generated.{draw_call, draw_restart, draw_leader, draw_lines, draw_calls, generate}
 use Rattle.schedule_generator.proofs.Stands.{calls_stand}
-
-ids_both : (xs ys : List ScheduleEvent) → call_ids (xs ++ ys) ≡ call_ids xs ++ call_ids ys
-ids_both [] ys = refl
-ids_both (Call peer id key command ∷ xs) ys = ap (λ (ids : List ℕ). id ∷ ids) (ids_both xs ys)
-ids_both (_ ∷ xs) ys = ids_both xs ys
 
 leader_ids : (b : Bool) (peer x : ℕ) → call_ids ((if b then draw_restart else gives (peer, [])) x).1.1 ≡ []
 leader_ids true peer x = refl
@@ -25,13 +21,13 @@ leader_ids false peer x = refl
 lines_ids : (peer id x : ℕ) → call_ids (draw_lines peer id x).1.1 ≡ id ∷ []
 lines_ids peer id x =
     let led = draw_leader peer id x in
-    ids_both led.1.1 (draw_call led.1.0 id led.0).1 ∙ ap (λ (ids : List ℕ). ids ++ id ∷ []) (leader_ids (id % 500 == 0) peer x)
+    call_ids-append led.1.1 (draw_call led.1.0 id led.0).1 ∙ ap (λ (ids : List ℕ). ids ++ id ∷ []) (leader_ids (id % 500 == 0) peer x)
 
 calls_ids : (count peer id x : ℕ) → call_ids (draw_calls count peer id x).1 ≡ range_with_len id count
 calls_ids zero peer id x = refl
 calls_ids (suc count) peer id x =
     let d = draw_lines peer id x in
-    ids_both d.1.1 (draw_calls count d.1.0 (id + 1) d.0).1 ∙ rw (lines_ids peer id x) (ap (λ (ids : List ℕ). id ∷ ids) (calls_ids count d.1.0 (id + 1) d.0))
+    call_ids-append d.1.1 (draw_calls count d.1.0 (id + 1) d.0).1 ∙ rw (lines_ids peer id x) (ap (λ (ids : List ℕ). id ∷ ids) (calls_ids count d.1.0 (id + 1) d.0))
 
 pub generated_ids : (number calls : ℕ) → call_ids (generate number calls).events ≡ range_with_len 1 calls
 unfolding generate

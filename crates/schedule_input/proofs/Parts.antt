@@ -5,7 +5,6 @@ use Rattle.std.specs.Io.KnownBytes.{Consumes, Keeps, IsAtEnd, prepend_known}
 use Rattle.std.proofs.lemmas.Bool.Decides.{nat_tests}
 use Rattle.std.proofs.lemmas.List.Splits.{slice_split-cons_yes, slice_split-cons_no, slice_split_none}
 use Rattle.ens_outside.specs.Lines.{HasNoFeed, BeginsLong}
-use Rattle.ens_base.specs.Results.{◌>>=◌}
 use Rattle.schedule_words.specs.Causes.{or_cause}
 use Rattle.schedule_words.specs.Words.{parts_of, words_of}
 use Rattle.schedule_words.specs.declared.cause.Cause.{Cause}
@@ -19,7 +18,7 @@ use Rattle.schedule_text.specs.declared.error.ScheduleError.TheVariants.{Bad, Li
 use Rattle.schedule_text.specs.declared.schedule.Schedule.{Schedule}
 use Rattle.schedule_text.specs.declared.event.ScheduleEvent.{ScheduleEvent}
 use Rattle.schedule_text.proofs.EventsRead.{short_enough}
-use Rattle.schedule_text.proofs.SchedulesRead.{at_line_ok}
+use Rattle.schedule_text.proofs.SchedulesRead.{at_line_ok, past_lines, last_is_tested, from_bind}
 use Rattle.schedule_input.specs.declared.read.ReadError.{ReadError}
 use Rattle.schedule_input.specs.declared.read.ReadError.TheVariants as read
 use Rattle.schedule_input.specs.Reading.{ReadsAs, ReadsOn, Refuses, of_schedule}
@@ -124,16 +123,11 @@ at_end None c p kept end = tt
 at_end (Some y) None p kept end = absurd kept
 at_end (Some y) (Some z) p kept end = ap (λ (l : List ℕ). read_parts p (parts_of 10 l)) (sym kept ∙ end)
 
--- line 200,001 begins
-by_true : {A : Type 0} (b : Bool) (r : Result A ScheduleError) → b ≡ true → (if b then Err Lines else r) ≡ Err Lines
-by_true true r h = refl
-by_true false r h = absurd cc
-
 full_line : (p : Progress) (w n : List ℕ) (more : List (List ℕ)) → (lines_so_far p == most_lines) ≡ true → read_parts p (w ∷ n ∷ more) ≡ Err Lines
-full_line p w n more last = ap (λ (r : Result Progress ScheduleError). and_then r (λ q. read_parts q (n ∷ more))) (by_true (lines_so_far p == most_lines) (at_next p (bounded w (with_line p w))) last)
+full_line p w n more last = ap (λ (r : Result Progress ScheduleError). and_then r (λ q. read_parts q (n ∷ more))) (past_lines (lines_so_far p == most_lines) (at_next p (bounded w (with_line p w))) last)
 
 full_rest : (p : Progress) (x : ℕ) (w : List ℕ) (more : List (List ℕ)) → (lines_so_far p == most_lines) ≡ true → read_parts p ((x ∷ w) ∷ more) ≡ Err Lines
-full_rest p x w [] last = by_true (lines_so_far p == most_lines) (at_next p (bounded (x ∷ w) (Err Unfinished))) last
+full_rest p x w [] last = past_lines (lines_so_far p == most_lines) (at_next p (bounded (x ∷ w) (Err Unfinished))) last
 full_rest p x w (n ∷ more) last = full_line p (x ∷ w) n more last
 
 full : (p : Progress) (y : List ℕ) → (lines_so_far p == most_lines) ≡ true → y ≢ [] → read_parts p (parts_of 10 y) ≡ Err Lines
@@ -144,17 +138,9 @@ full p (x ∷ xs) last some = by_test (x == 10) refl (first_part xs)
     by_test true e rest = ap (λ (l : List (List ℕ)). read_parts p l) (slice_split-cons_yes (λ b. b == 10) x xs e ∙ ap (λ (l : List (List ℕ)). [] ∷ l) rest.2) ∙ full_line p [] rest.0 rest.1 last
     by_test false e rest = ap (λ (l : List (List ℕ)). read_parts p l) (slice_split-cons_no (λ b. b == 10) x xs e ∙ onto_some x rest.0 rest.1 (parts_of 10 xs) rest.2) ∙ full_rest p x rest.0 rest.1 last
 
-last_line : (n : ℕ) → n ≡ 200000 → (n == most_lines) ≡ true
-last_line n e = grind (arith, nat_tests, e)
-
 pub too_many : (b : Option (List ℕ)) (p : Progress) → lines_so_far p ≡ 200000 → IfSome b (λ rest. rest ≢ []) → ReadsAs b p (Err Lines)
 too_many None p count more = tt
-too_many (Some y) p count more = full p y (last_line (lines_so_far p) count) more
-
--- a line that is taken adds one to the count
-from_bind : {A B G : Type 0} (r : Result A Cause) (f : A → Result B Cause) (q : B) → (r >>= f) ≡ Ok q → ((x : A) → f x ≡ Ok q → G) → G
-from_bind (Ok x) f q h go = go x h
-from_bind (Err c) f q h go = absurd cc
+too_many (Some y) p count more = full p y (last_is_tested (lines_so_far p) count) more
 
 from_test : (b : Bool) (r : Result Progress ScheduleError) (q : Progress) → (if b then Err Lines else r) ≡ Ok q → r ≡ Ok q
 from_test true r q h = absurd cc

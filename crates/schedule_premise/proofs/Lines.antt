@@ -1,9 +1,7 @@
 -- Peers of lines `revert`, and views of lines `change`.
 use Rattle.std.proofs.Common.{◌≡◌, ℕ, zero, suc, ◌<◌, Bool, true, false, ◌||◌, List, [], ◌∷◌, ◌++◌, length, get_or, refl, sym, ap, subst, ◌∙◌, inl, inr, eqb-true, arith}
-use Rattle.std.specs.Prelude.{replicate, slice_index_or}
 use Rattle.std.proofs.lemmas.Bool.{eq-eqb, false≢true, or_right, or_left}
 use Rattle.ens_base.specs.Lists.{◌∈◌}
-use Rattle.ens_base.specs.PeerSet.{holds}
 use Rattle.ens_base.specs.View.{IsView}
 use Rattle.schedule_text.specs.Spelling.{MayStand, AllMayStand}
 use Rattle.schedule_text.specs.declared.event.ScheduleEvent.{ScheduleEvent}
@@ -11,14 +9,6 @@ use Rattle.schedule_text.specs.declared.event.ScheduleEvent.TheVariants.{Change,
 use Rattle.schedule_premise.specs.Premise.{changed_views, is_reverted, reverts, views_of_line}
 
 -- ## The lines that a loop visits
-
-none_held : (n q : ℕ) → slice_index_or (replicate n false) q false ≡ false
-none_held zero q = refl
-none_held (suc n) zero = refl
-none_held (suc n) (suc q) = none_held n q
-
-pub held_by_none : (p : ℕ) → holds (replicate 32 false) p ≡ false
-held_by_none p = none_held 32 p
 
 pub stands_at : (peers : ℕ) (events : List ScheduleEvent) (i : ℕ) (d : ScheduleEvent) → i < length events → AllMayStand peers events → MayStand peers (get_or events i d)
 stands_at peers [] i d below all = absurd (omega arith)

@@ -5,6 +5,7 @@ use Rattle.std.proofs.lemmas.Bool.{true≢false, false≢true, not-false}
 use Rattle.ens_base.specs.Lists.{◌∈◌}
 use Rattle.ens_base.specs.PeerSet.{holds}
 use Rattle.ens_base.specs.View.{IsView}
+use Rattle.ens_base.proofs.Tests.{true_of_not}
 use Rattle.joint_views.specs.Quorums.{is_majority, is_quorum, Meet}
 use Rattle.joint_views.proofs.Majorities.{majority_more, meet_of_majorities, quorum_of_all}
 use Rattle.schedule_text.specs.Spelling.{IsSchedule}
@@ -24,10 +25,6 @@ not_true false h e = false≢true e
 not_of_true : (b : Bool) → b ≡ true → not b ≡ false
 not_of_true true h = refl
 not_of_true false h = absurd (false≢true h)
-
-true_of_not : (b : Bool) → (b ≡ true → ⊥) → not b ≡ true
-true_of_not true h = absurd (h refl)
-true_of_not false h = refl
 
 module _ (s : Schedule) where
   kept : ℕ → Bool

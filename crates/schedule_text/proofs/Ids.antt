@@ -5,20 +5,18 @@ use Rattle.std.proofs.lemmas.Bool.Decides.{nat_tests}
 use Rattle.std.specs.List.{list_any}
 use Rattle.ens_base.specs.Lists.{AreDistinct, ◌∈◌}
 use Rattle.ens_base.specs.declared.command.Command.{Command}
+use Rattle.ens_base.proofs.Tests.{itself}
 use Rattle.schedule_text.specs.Progress.{is_call, is_repeated}
 use Rattle.schedule_text.specs.Spelling.{call_ids}
 use Rattle.schedule_text.specs.declared.event.ScheduleEvent.{ScheduleEvent}
 use Rattle.schedule_text.specs.declared.event.ScheduleEvent.TheVariants.{Call, Tick, Deliver, Pass, Lose, Calm, CalmAmong, Change, Stop, Start, Upgrade, Deepen, Spoil, Damage, Inner, Revert, Fail}
-
-same : (n : ℕ) → (n == n) ≡ true
-same n = grind (arith, nat_tests)
 
 -- no call with this id is no such id
 not_called : (id : ℕ) (events : List ScheduleEvent) → list_any (is_call id) events ≡ false → id ∈ call_ids events → ⊥
 not_called id [] h m = m
 not_called id (Call peer i key command ∷ more) h (inl e) =
     let parts = or_parts (i == id) _ h in
-    let is_same : (i == id) ≡ true = rw e (same i) in
+    let is_same : (i == id) ≡ true = rw e (itself i) in
     cc (is_same, parts.0)
 not_called id (Call peer i key command ∷ more) h (inr m) = let parts = or_parts (i == id) _ h in not_called id more parts.1 m
 not_called id (_ ∷ more) h m = not_called id more h m
@@ -71,6 +69,11 @@ distinct_with events (Damage a b c) h k = rw (call_ids-no_call events (Damage a 
 distinct_with events (Inner a b c d) h k = rw (call_ids-no_call events (Inner a b c d) tt) h
 distinct_with events (Revert a b) h k = rw (call_ids-no_call events (Revert a b) tt) h
 distinct_with events (Fail a b c) h k = rw (call_ids-no_call events (Fail a b c) tt) h
+
+pub call_ids-append : (xs ys : List ScheduleEvent) → call_ids (xs ++ ys) ≡ call_ids xs ++ call_ids ys
+call_ids-append [] ys = refl
+call_ids-append (Call peer id key command ∷ xs) ys = ap (λ (ids : List ℕ). id ∷ ids) (call_ids-append xs ys)
+call_ids-append (_ ∷ xs) ys = call_ids-append xs ys
 
 -- ---- and the other way
 

@@ -9,6 +9,7 @@ use Rattle.std.specs.Fmt.{decimal}
 use Rattle.std.specs.List.{join_with_byte}
 use Rattle.ens_base.specs.Lists.{same_bytes}
 use Rattle.ens_base.specs.View.{IsView}
+use Rattle.ens_base.specs.Results.{◌>>=◌}
 use Rattle.schedule_words.specs.Causes.{or_cause}
 use Rattle.schedule_words.specs.Spelling.{AreMembers, member_words}
 use Rattle.schedule_words.specs.Words.{number_of, parts_of, view_of, words_of}
@@ -135,6 +136,17 @@ at_line_ok n (Err e) x h = cc h
 pub unless_lines : {A : Type 0} (b : Bool) (r : Result A ScheduleError) (x : A) → (if b then Err Lines else r) ≡ Ok x → (b ≡ false) × (r ≡ Ok x)
 unless_lines true r x h = cc h
 unless_lines false r x h = (refl, h)
+
+pub past_lines : {A : Type 0} (b : Bool) (r : Result A ScheduleError) → b ≡ true → (if b then Err Lines else r) ≡ Err Lines
+past_lines true r h = refl
+past_lines false r h = absurd cc
+
+pub last_is_tested : (n : ℕ) → n ≡ 200000 → (n == most_lines) ≡ true
+last_is_tested n e = grind (arith, nat_tests, e)
+
+pub from_bind : {A B G : Type 0} (r : Result A Cause) (f : A → Result B Cause) (q : B) → (r >>= f) ≡ Ok q → ((x : A) → f x ≡ Ok q → G) → G
+from_bind (Ok x) f q h go = go x h
+from_bind (Err c) f q h go = absurd cc
 
 pub not_last : (n : ℕ) → (n == most_lines) ≡ false → n ≤ 200000 → n < 200000
 not_last n h k = grind (arith, nat_tests)

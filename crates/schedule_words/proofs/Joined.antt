@@ -9,15 +9,13 @@ use Rattle.std.specs.List.{list_all, list_any, join_with_byte}
 use Rattle.std.specs.Str.Parse.{AllDigits}
 use Rattle.hex.specs.Hex.{IsBytes, encode_lower, encode_with, lower_digits}
 use Rattle.ens_base.specs.Words.{value_word}
+use Rattle.ens_base.proofs.Tests.{itself}
 use Rattle.schedule_words.specs.Spelling.{IsContent, content_word}
 use Rattle.schedule_words.specs.Words.{parts_of}
 
 -- whether the byte stands in the text
 abbrev pub has : ℕ → List ℕ → Bool
 has at text = list_any (λ b. b == at) text
-
-same : (n : ℕ) → (n == n) ≡ true
-same n = grind (arith, nat_tests)
 
 pub has-append : (at : ℕ) (xs ys : List ℕ) → has at xs ≡ false → has at ys ≡ false → has at (xs ++ ys) ≡ false
 has-append at [] ys p q = q
@@ -30,7 +28,7 @@ parts_of-one at (x ∷ xs) h = let parts = or_parts (x == at) _ h in rw (parts.0
 
 -- the first part ends at the byte
 pub parts_of-more : (at : ℕ) (text rest : List ℕ) → has at text ≡ false → parts_of at (text ++ (at ∷ rest)) ≡ text ∷ parts_of at rest
-parts_of-more at [] rest h = rw same refl
+parts_of-more at [] rest h = rw itself refl
 parts_of-more at (x ∷ xs) rest h = let parts = or_parts (x == at) _ h in rw (parts.0, parts_of-more at xs rest parts.1) refl
 
 -- each word has bytes, and none of them is the one that parts words

@@ -24,7 +24,7 @@ abbrev pub or_cause : {A : Type 0} → Cause → Option A → Result A Cause
 or_cause cause (Some x) = Ok x
 or_cause cause None = Err cause
 
--- a refusal has the cause of the reading, or is for want of memory
+-- a refusal has the cause of the reading, or is out of memory
 abbrev pub Refuses : {A : Type 0} → Result A Cause → WordError → Type 0
 Refuses read (Bad cause) = read ≡ Err cause
 Refuses read Memory = Unit {0}

@@ -1,9 +1,8 @@
 -- Blocks of a peer with a seal.
-use Rattle.std.proofs.Common.{◌≡◌, ◌⊎◌, inl, inr, ℕ, Bool, true, false, List, [], ◌∷◌, ◌++◌, Option, None, Some, Result, Ok, Err, refl, sym, ap, subst, ◌∙◌, le_trans}
+use Rattle.std.proofs.Common.{◌≡◌, ◌⊎◌, inl, inr, ℕ, false, List, [], ◌∷◌, ◌++◌, Option, None, Some, Result, Ok, Err, refl, sym, ap, subst, ◌∙◌, le_trans}
 use Rattle.abstract_protocol.proofs.Steps.{after_both, may_both}
 use Rattle.abstract_protocol.specs.Objects.{Map, Objects, IsHonest, IsSynced, set_entry, MayWrite, MayInstall, MayEndSync}
 use Rattle.abstract_protocol.specs.Protocol.{State, Step, Write, Install as InstallMap, EndSync, Lose, happens, after, MayAll}
-use Rattle.ens_base.specs.Lists.{same_bytes}
 use Rattle.ens_base.specs.declared.entry.Entry.{Entry}
 use Rattle.ens_outside.specs.declared.memory.failing_call.Leaves.{Leaves}
 use Rattle.ens_outside.specs.declared.memory.failing_call.Leaves.TheVariants as left
@@ -26,21 +25,13 @@ use Rattle.tree_refinement.proofs.Tops.{named_behind, named_sees}
 use Rattle.tree_refinement.specs.Rooted.{EndsEntered, HasUnsealed}
 use Rattle.tree_refinement.specs.Tops.{HasBuilt, IsNamed, IsWritten, tops_of}
 use Rattle.tree_refinement.specs.Trees.{AreAmong}
-use Rattle.version_laws.proofs.Maps.{put_here}
+use Rattle.version_laws.proofs.Maps.{put_here, set_same}
 use Rattle.version_laws.proofs.Stays.{versions_step}
 use Rattle.world_stores.specs.Nodes.{top_of}
 use Rattle.world_stores.specs.declared.fact.HeldFact.{HeldFact}
 use Rattle.seal_stores.specs.Held.{Ranks, SealHolds, IsUnderSeal, RootIsSeal}
 use Rattle.seal_stores.specs.Blocks.{Stops, Left, after_call, put_bytes, save_sealed, after_entered, end_block, go_on}
 use Rattle.seal_stores.specs.Laws.{Refines, Adds, PutsRefine, EndsRefine, Starts, StartsRefine, Migrates, MigrationsStay}
-
--- maps that agree at a key agree there with one entry set
-set_same : (m n : Map) (j : List ℕ) (v : ℕ) (k : List ℕ) → m k ≡ n k → set_entry m j v k ≡ set_entry n j v k
-set_same m n j v k e = by_key (same_bytes j k) refl
-  where
-    by_key : (b : Bool) → same_bytes j k ≡ b → set_entry m j v k ≡ set_entry n j v k
-    by_key true is = rw is refl
-    by_key false is = rw is e
 
 -- the root of a tree that was written is the digest in its new top record
 written_root : (m : List Entry) (h t : Held) (w : IsWritten m h t) → t.stores.tree.top ≡ Some w.next.digest

@@ -7,6 +7,7 @@ use Rattle.std.proofs.lemmas.List.{get_or-set_same, get_or-set_other}
 use Rattle.std.proofs.Math.Bool.{or-false}
 use Rattle.ens_base.proofs.Lists.{tested_in}
 use Rattle.ens_base.proofs.Orders.{version_itself}
+use Rattle.ens_base.proofs.Tests.{itself}
 use Rattle.ens_base.specs.Epochs.{same_version}
 use Rattle.ens_base.specs.Lists.{◌∈◌, is_in}
 use Rattle.ens_base.specs.PeerSet.{holds}
@@ -18,6 +19,7 @@ use Rattle.ens_base.specs.declared.reply.Reply.TheVariants as replies
 use Rattle.ens_object.specs.declared.object.Object.{Object}
 use Rattle.joint_views.specs.Quorums.{is_majority, is_quorum, is_member, has_every}
 use Rattle.joint_views.proofs.Majorities.{majority_more_on}
+use Rattle.joint_views.proofs.Sets.{no_flag}
 use Rattle.phase_rows.specs.Orders.{is_same}
 use Rattle.quorum_round.specs.Rounds.{begun, answered as heard_from, state_of}
 use Rattle.quorum_round.specs.declared.round.Round.{Round}
@@ -31,10 +33,9 @@ use Rattle.wire_frames.specs.declared.message.Message.TheVariants as messages
 use Rattle.phase_rows.specs.declared.phase.Seen.TheVariants as seens
 use Rattle.phase_rows.specs.declared.rules.KeyRule.TheVariants as key_rules
 use Rattle.call_table.specs.Calls.{running, without_running}
-use Rattle.call_table.specs.Rows.{Rows, row_at, check_round, base_of, with_known, with_stage}
+use Rattle.call_table.specs.Rows.{Rows, row_at, check_round, base_of, with_stage}
 use Rattle.call_table.specs.Tables.{ended, rested}
 use Rattle.call_table.specs.declared.row.KeyRow.{KeyRow}
-use Rattle.call_table.specs.declared.row.Known.{Known}
 use Rattle.call_table.specs.declared.row.Stage.{Stage}
 use Rattle.call_table.specs.declared.row.Stage.TheVariants as stages
 use Rattle.call_table.specs.declared.table.CallTable.{CallTable}
@@ -51,9 +52,7 @@ use Rattle.serving_laws.specs.Whole.{CountsVotes, IsStage, IsWhole}
 use Rattle.leading.specs.declared.leader.Leader.{Leader}
 use Rattle.leading.specs.declared.pending.Pending.{Pending}
 use Rattle.leading.specs.declared.pending.Pending.TheVariants as tasks
-use Rattle.leading_laws.proofs.Lookups.{row_here, stage_here}
-use Rattle.leading_laws.proofs.Votes.{none_held}
-use Rattle.leading_laws.proofs.Sends.{itself}
+use Rattle.leading_laws.proofs.Lookups.{row_here, stage_here, known_here}
 use Rattle.serving_laws.proofs.KeepsWhole.{begun_counts, heard_counts}
 
 -- ## Quorums depend on members alone
@@ -97,7 +96,7 @@ pub begun_votes : (views : List (List ℕ)) (me p : ℕ) → IsPeer me → is_me
 unfolding begun
 begun_votes views me p peer is =
     answered_votes views (record { tally = record { views = views; votes = replicate 32 false } }) me p (record { on = refl; flags = refl }) peer is
-    ∙ ap (λ (b : Bool). p == me || b) (none_held 32 p) ∙ or-false (p == me)
+    ∙ ap (λ (b : Bool). p == me || b) (no_flag 32 p) ∙ or-false (p == me)
 
 -- a round in which a quorum has voted is not open
 pub not_open : (views : List (List ℕ)) (round : Round) → round.tally.views ≡ views → is_quorum (holds round.tally.votes) views ≡ true → state_of round ≡ Open → ⊥
@@ -185,10 +184,6 @@ check_alone reply key w l runs task left is =
     (beginning key l (record (with_task tasks.Nothing l) { round = l.round + 1 }) w (state_of (begun l.fact.views l.me)) (begun l.fact.views l.me) reply (tells_all l.me l.fact.views (messages.Check l.fact.epoch (l.round + 1)) rests) (alone l is) refl refl refl refl)))
 
 -- ## Puts
-
-known_here : (key : List ℕ) (known : Known) (rows : Rows) → (row_at key (with_known key known rows)).known ≡ known
-unfolding with_known
-known_here key known rows = ap (λ (row : KeyRow). row.known) (row_here key (record (row_at key rows) { known = known }) rows)
 
 known_still : (key : List ℕ) (stage : Stage) (rows : Rows) → (row_at key (with_stage key stage rows)).known ≡ (row_at key rows).known
 unfolding with_stage

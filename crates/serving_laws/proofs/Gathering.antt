@@ -1,18 +1,11 @@
 -- The replies of a round of reading, and what they come to.
-use Rattle.std.proofs.Common.{◌≡◌, ◌≢◌, ◌∙◌, ◌==◌, ◌&&◌, ◌||◌, ap, sym, refl, subst, inl, inr, ℕ, Bool, true, false, if◌then◌else◌, List, [], ◌∷◌, Option, Some, None, arith}
+use Rattle.std.proofs.Common.{◌≡◌, ◌≢◌, ◌∙◌, ◌==◌, ◌&&◌, ◌||◌, ap, sym, refl, subst, inl, inr, ℕ, Bool, true, false, if◌then◌else◌, List, [], ◌∷◌, Option, Some, None}
 use Rattle.std.proofs.lemmas.Bool.{false≢true, and_parts, eqb-true}
-use Rattle.std.proofs.lemmas.Bool.Decides.{nat_tests}
-use Rattle.std.specs.Ordering.{on, then_cmp, ordering_reverse}
-use Rattle.std.specs.Cmp.{IsTotalOrder}
-use Rattle.std.specs.Cmp.Lexicographic.{nat_list_cmp_total}
-use Rattle.std.proofs.lemmas.Cmp.{then_total, on_total}
-use Rattle.std.proofs.lemmas.Map.Lookups.{exact_bytes}
+use Rattle.std.specs.Ordering.{on, ordering_reverse}
 use Rattle.std.specs.declared.cmp.Ordering.{Ordering}
 use Rattle.std.specs.declared.cmp.Ordering.TheVariants.{Less, Equal, Greater}
 use Rattle.ens_base.proofs.Lists.{tested_in}
-use Rattle.ens_base.proofs.Orders.{versions, both_equal, equal_versions}
-use Rattle.ens_base.specs.Epochs.{version_cmp}
-use Rattle.ens_base.specs.Lists.{◌∈◌, is_in, bytes_cmp}
+use Rattle.ens_base.specs.Lists.{◌∈◌, is_in}
 use Rattle.ens_base.specs.PeerSet.{holds}
 use Rattle.ens_base.specs.View.{IsPeer}
 use Rattle.ens_base.specs.declared.command.Command.{Command}
@@ -33,7 +26,8 @@ use Rattle.quorum_round.specs.declared.round.RoundState.{RoundState}
 use Rattle.quorum_round.specs.declared.round.RoundState.TheVariants.{Open, Met, AllAnswered}
 use Rattle.phase_rows.specs.declared.phase.Seen.TheVariants as seens
 use Rattle.phase_rows.specs.declared.rules.KeyRule.TheVariants as key_rules
-use Rattle.call_table.proofs.Greatest.{best_is_greatest}
+use Rattle.phase_rows.proofs.Epochs.{same_epochs}
+use Rattle.call_table.proofs.Greatest.{best_is_greatest, entries, same_entries}
 use Rattle.call_table.specs.Best.{entry_cmp, better, IsGreatest, IsBest}
 use Rattle.call_table.specs.Calls.{running}
 use Rattle.call_table.specs.declared.row.Found.{Found}
@@ -51,17 +45,6 @@ use Rattle.leading.specs.declared.leader.Leader.{Leader}
 use Rattle.leading.specs.declared.pending.Pending.TheVariants as tasks
 use Rattle.serving_laws.proofs.Completing.{quorum_of_members, answered_votes, begun_votes, not_open, is_answered, epoch_itself, counted}
 use Rattle.leading_laws.proofs.Lookups.{stage_here}
-
--- ## The order of entries
-
-entries : IsTotalOrder entry_cmp
-entries = then_total (on_total (λ (e : Entry). e.version) versions) (then_total (on_total (λ (e : Entry). e.digest) nat_list_cmp_total) (on_total (λ (e : Entry). e.key) nat_list_cmp_total))
-
-same_entries : (a b : Entry) → entry_cmp a b ≡ Equal → a ≡ b
-same_entries a b h =
-    let parts = both_equal (on (λ (e : Entry). e.version) version_cmp) (then_cmp (on (λ (e : Entry). e.digest) bytes_cmp) (on (λ (e : Entry). e.key) bytes_cmp)) a b h in
-    let rest = both_equal (on (λ (e : Entry). e.digest) bytes_cmp) (on (λ (e : Entry). e.key) bytes_cmp) a b parts.1 in
-    λ i. record { key = exact_bytes a.key b.key rest.1 i; version = equal_versions a.version b.version parts.0 i; digest = exact_bytes a.digest b.digest rest.0 i }
 
 -- ## The replies that came
 
@@ -104,9 +87,6 @@ one_more_reply from round key entry object replies l whole peer h =
   where
     own : CountsVotes l.fact.views h.votes
     own = subst (IsStage l.fact.views) h.stage (whole.stages key)
-
-same_epochs : (a b : Epoch) → is_same a b ≡ true → a ≡ b
-same_epochs a b h = grind (arith, nat_tests)
 
 pub other_reply : (from at round : ℕ) (ballot : Epoch) (key : List ℕ) (entry : Option Entry) (object : Option Object) (replies : List GetReply) (l : Leader) → IsReading key round replies l
     → ¬ ((ballot ≡ l.fact.epoch) × (at ≡ round)) → row_29_reply from ballot at key entry object l ≡ idle l

@@ -1,9 +1,8 @@
 -- Calls that join, and ticks, keep the table of a leader whole.
 use Rattle.std.specs.Prelude.{All}
-use Rattle.std.proofs.Common.{◌≡◌, ◌+◌, ◌==◌, ◌||◌, ◌∙◌, ap, sym, refl, subst, inl, inr, ℕ, Bool, true, false, map, nat_le, if◌then◌else◌, List, [], ◌∷◌, ◌++◌, Option, Some, None, eqb-true, arith, le_refl}
+use Rattle.std.proofs.Common.{◌≡◌, ◌+◌, ◌==◌, ◌||◌, ◌∙◌, ap, sym, refl, subst, inl, inr, ℕ, Bool, true, false, map, nat_le, if◌then◌else◌, List, [], ◌∷◌, ◌++◌, Option, Some, None, eqb-true, le_refl}
 use Rattle.std.proofs.lemmas.Bool.{false≢true}
 use Rattle.std.proofs.lemmas.List.Elements.{All-nil, All-cons}
-use Rattle.ens_base.specs.Lists.{same_bytes}
 use Rattle.ens_base.specs.declared.command.Command.{Command}
 use Rattle.ens_base.specs.declared.reply.Reply.{Reply}
 use Rattle.ens_base.specs.declared.reply.Reply.TheVariants as replies
@@ -27,7 +26,7 @@ use Rattle.leading.specs.Ticks.{Finishing, is_late, aged, timed_out, row_5_calls
 use Rattle.serving_laws.specs.Whole.{IsStage, IsIndexed, IsWhole, IsClear, StaysWhole}
 use Rattle.leading.specs.declared.leader.Leader.{Leader}
 use Rattle.serving_laws.proofs.Indexed.{index_stays, index_ends}
-use Rattle.leading_laws.proofs.Lookups.{stage_other, stage_here}
+use Rattle.leading_laws.proofs.Lookups.{stage_other, stage_here, nobody_waits}
 use Rattle.leading_laws.proofs.TimeOuts.{without_due_rows, due_then, all_rested, HasKey}
 use Rattle.leading.proofs.Cases.{either}
 use Rattle.serving_laws.proofs.Resting.{key_list, keys_of_due, timed_out_keys}
@@ -44,14 +43,6 @@ new_whole fact me accepts = record { stages = λ k. tt; task = tt; index = recor
 -- the calls change, and nothing else
 whole_calls : (l : Leader) (calls : List Waiting) → IsWhole l → IsWhole (record l { table = record l.table { calls = calls } })
 whole_calls l calls h = record { stages = h.stages; task = h.task; index = index_stays l.round l.round l.table (record l.table { calls = calls }) (le_refl l.round) refl (λ k. refl) h.index }
-
-nobody_waits : (key : List ℕ) (calls : List Waiting) → waiting_on key calls ≡ 0 → running key calls ≡ None
-nobody_waits key [] e = refl
-nobody_waits key (w ∷ calls) e = by_key (same_bytes w.key key) e (nobody_waits key calls)
-  where
-    by_key : (b : Bool) → (if b then waiting_on key calls + 1 else waiting_on key calls) ≡ 0 → (waiting_on key calls ≡ 0 → running key calls ≡ None) → (if b then Some w else running key calls) ≡ None
-    by_key true h later = absurd (omega (arith, h))
-    by_key false h later = later h
 
 refused_so : (key : List ℕ) (l : Leader) (from id : ℕ) (reply : Reply) → IsWhole l → StaysWhole key (l, and_answer from id reply rests)
 refused_so key l from id reply whole = record { whole = whole; clear = All-nil (IsClear l); own = λ some. absurd (false≢true some) }

@@ -3,7 +3,6 @@ use Rattle.std.proofs.Common.{◌≡◌, ◌⊎◌, inl, inr, ℕ, ◌+◌, ◌<
 use Rattle.std.proofs.lemmas.List.{take_all, take-append-le}
 use Rattle.std.proofs.lemmas.Bool.{cases_lt}
 use Rattle.std.proofs.lemmas.List.{reverse-append}
-use Rattle.std.specs.Prelude.{Result, Ok, Err, OnErr}
 use Rattle.slot_disk.specs.Crash.{written, Cut, Elapses}
 use Rattle.slot_disk.specs.Images.{new_part, partly_written, cut_in, image_after, image_of, Advances, IsReplayed}
 use Rattle.slot_disk.specs.declared.image.Image.{Image}
@@ -13,11 +12,6 @@ use Rattle.slot_disk.specs.Outcomes.{cut_whole, cut_none, seen_is_image}
 use Rattle.slot_disk.specs.declared.step.Step.{Step}
 use Rattle.slot_disk.proofs.Recorded.{deeds_push}
 use Rattle.slot_disk.specs.Steps.{deeds, deed_of, Deed, Wrote, CutTo, Synced, seen_of, IsImage, Leaves, LeftSince}
-
--- what holds in any case holds after an error
-pub any_err : {T E : Type 0} (r : Result T E) (P : Type 0) → P → OnErr r P
-any_err (Ok x) P p = tt
-any_err (Err e) P p = p
 
 -- time after one more call
 pub elapses : (first later : List ℕ) (old new : List Deed) (d : Deed) → later ≡ first → new ≡ old ++ d ∷ [] → Elapses (length old) (length new) (LeftSince first old) (LeftSince later new) (Leaves later new)

@@ -25,6 +25,7 @@ use Rattle.sync_laws.specs.Facts.{Lines, AreFirm}
 use Rattle.sync_laws.specs.Syncs as syncs
 use Rattle.sync_rule.proofs.Contents.{merge}
 use Rattle.sync_rule.proofs.Same.{kept_exactly}
+use Rattle.sync_rule.proofs.Telling.{all_have}
 use Rattle.sync_rule.specs.Merges.{IsMerge, merged}
 use Rattle.sync_rule.specs.Syncs.{is_clean, is_source, is_trusted_source, has_finished, is_trusted, all_entries, is_over, outcome_of}
 use Rattle.sync_rule.specs.declared.sync.Outcome.TheVariants.{Pending, Trusted}
@@ -73,12 +74,6 @@ finished_there p q me clean source finished same is none h = grind (arith, nat_t
 sure_there : (p q me : ℕ) (clean trust trusted source finished flagged : Bool) → me ≡ p → trust ≡ trusted → source ≡ (finished && flagged) → (p ≡ q → finished ≡ false) → ((q == me && clean) && trust || source) ≡ true
     → (if p == q then trusted && not (not clean) else finished && flagged) ≡ true
 sure_there p q me clean trust trusted source finished flagged same is_trust is none h = grind (arith, nat_tests)
-
--- what all members have, each of them has
-each_has : (f : ℕ → Bool) (view : List ℕ) (q : ℕ) → has_all f view ≡ true → q ∈ view → f q ≡ true
-each_has f [] q h i = absurd i
-each_has f (x ∷ view) q h (inl e) = grind arith
-each_has f (x ∷ view) q h (inr i) = each_has f view q (grind arith) i
 
 -- ## Keys
 
@@ -148,7 +143,7 @@ module _ (version : TreeVersion) (g : Lines) (s : State) (strings : List (List �
     where
       by_kind : (is_majority (is_trusted r.sync) r.sync.view ≡ true) ⊎ (has_all (has_finished r.sync) r.sync.view ≡ true) → syncs.IsOver p trusted (seen_sync r)
       by_kind (inl most) = inl (majority_more_on (is_trusted r.sync) (syncs.is_sure p trusted (seen_sync r)) (last_view r.fact.views) (λ q i h. sure q h) (subst (λ (v : List ℕ). is_majority (is_trusted r.sync) v ≡ true) says.view most))
-      by_kind (inr all) = inr (λ q i. finished q (each_has (has_finished r.sync) (last_view r.fact.views) q (subst (λ (v : List ℕ). has_all (has_finished r.sync) v ≡ true) says.view all) i))
+      by_kind (inr all) = inr (λ q i. finished q (all_have (has_finished r.sync) (last_view r.fact.views) q (subst (λ (v : List ℕ). has_all (has_finished r.sync) v ≡ true) says.view all) i))
 
   -- ## The merged map may be installed
 

@@ -1,6 +1,6 @@
 -- What a sync merges is, as a map from keys to versions, what the theory merges.
-use Rattle.std.proofs.Common.{◌≡◌, ◌⊎◌, inl, inr, ℕ, ◌≤◌, Bool, true, false, ◌||◌, List, [], ◌∷◌, ◌++◌, map, arith, refl, sym, subst, ◌∙◌, le_trans, le_antisymm}
-use Rattle.ens_base.proofs.Lists.{in_append}
+use Rattle.std.proofs.Common.{◌≡◌, ◌⊎◌, inl, inr, ℕ, ◌≤◌, Bool, true, false, ◌||◌, List, [], ◌∷◌, map, arith, refl, sym, subst, ◌∙◌, le_trans, le_antisymm}
+use Rattle.ens_base.proofs.Lists.{in_append, in_left, in_right}
 use Rattle.std.specs.Prelude.{◌==◌, if◌then◌else◌}
 use Rattle.std.specs.List.{flat_map}
 use Rattle.std.proofs.lemmas.Bool.{eqb-true, ne_eqb}
@@ -25,17 +25,6 @@ use Rattle.sync_refinement.specs.Seen.{ranks, greatest, seen_ask, ask_of, seen_s
 use Rattle.sync_refinement.specs.Syncs.{IsScanOf, SourcesAre}
 use Rattle.sync_refinement.proofs.Setting.{source_in}
 
--- ## Lists
-
-in_first : {A : Type 0} (x : A) (xs ys : List A) → x ∈ xs → x ∈ (xs ++ ys)
-in_first x [] ys i = absurd i
-in_first x (y ∷ xs) ys (inl e) = inl e
-in_first x (y ∷ xs) ys (inr i) = inr (in_first x xs ys i)
-
-in_second : {A : Type 0} (x : A) (xs ys : List A) → x ∈ ys → x ∈ (xs ++ ys)
-in_second x [] ys i = i
-in_second x (y ∷ xs) ys i = inr (in_second x xs ys i)
-
 -- ## Sources
 
 -- what all these sources sent
@@ -45,8 +34,8 @@ sent_by ss = flat_map (λ (x : Source). x.entries) ss
 -- what a source sent is among all that was sent
 sent_in : (ss : List Source) (source : Source) (e : Entry) → source ∈ ss → e ∈ source.entries → e ∈ sent_by ss
 sent_in [] source e at i = absurd at
-sent_in (x ∷ ss) source e (inl same) i = in_first e x.entries (sent_by ss) (subst (λ (y : Source). e ∈ y.entries) same i)
-sent_in (x ∷ ss) source e (inr at) i = in_second e x.entries (sent_by ss) (sent_in ss source e at i)
+sent_in (x ∷ ss) source e (inl same) i = in_left x.entries (sent_by ss) e (subst (λ (y : Source). e ∈ y.entries) same i)
+sent_in (x ∷ ss) source e (inr at) i = in_right x.entries (sent_by ss) e (sent_in ss source e at i)
 
 -- an entry that a source sent
 abbrev pub IsSent : List Source → Entry → Type 0
@@ -108,7 +97,7 @@ module _ (r : Running) (entries m : List Entry) (scan : IsScanOf m r.sync.scan) 
       by_ask : (source : Source) → source ∈ r.sync.sources → source.peer ≡ q → (a : Asking) × (a ∈ r.asks) × (a.peer ≡ source.peer) × (source.entries ≡ a.ask.received) → (ask_of r.asks q).received k ≤ ranks entries k
       by_ask source at peer a =
           let same : ask_of r.asks q ≡ seen_ask a.0 = subst (λ (n : ℕ). ask_of r.asks n ≡ seen_ask a.0) (a.2 ∙ peer) (ask_in r.asks a.0 distinct a.1) in
-          let among : (e : Entry) → e ∈ a.0.ask.received → e ∈ all_entries r.sync = λ e i. in_second e r.sync.scan.entries (sent_by r.sync.sources) (sent_in r.sync.sources source e at (subst (λ (es : List Entry). e ∈ es) (sym a.3) i)) in
+          let among : (e : Entry) → e ∈ a.0.ask.received → e ∈ all_entries r.sync = λ e i. in_right r.sync.scan.entries (sent_by r.sync.sources) e (sent_in r.sync.sources source e at (subst (λ (es : List Entry). e ∈ es) (sym a.3) i)) in
           subst (λ (z : syncs.Asking). z.received k ≤ ranks entries k) (sym same) (version_below a.0.ask.received k (greatest a.0.ask.received k) among (greatest_found a.0.ask.received k))
 
       by_source : SourceOf r.sync.sources q → (ask_of r.asks q).received k ≤ ranks entries k
@@ -123,7 +112,7 @@ module _ (r : Running) (entries m : List Entry) (scan : IsScanOf m r.sync.scan) 
 
   -- the theory merges nothing greater
   gathered_least : (members : List ℕ) (k : List ℕ) → syncs.gathered (seen_sync r) members k ≤ ranks entries k
-  gathered_least [] k = version_below r.sync.scan.entries k (ranks r.sync.scan.entries k) (λ e i. in_first e r.sync.scan.entries (sent_by r.sync.sources) i) (ranks_found r.sync.scan.entries k)
+  gathered_least [] k = version_below r.sync.scan.entries k (ranks r.sync.scan.entries k) (λ e i. in_left r.sync.scan.entries (sent_by r.sync.sources) e i) (ranks_found r.sync.scan.entries k)
   gathered_least (q ∷ rest) k = max_least (syncs.given_by (seen_sync r) q k) (syncs.gathered (seen_sync r) rest k) (ranks entries k) (given_least q k) (gathered_least rest k)
 
   -- an entry that was scanned, or that a source sent, is among what the theory merges

@@ -3,7 +3,6 @@ use Rattle.std.proofs.Common.{◌≡◌, ◌⊎◌, ℕ, Bool, true, false, not,
 use Rattle.ens_base.proofs.Lists.{in_append, in_tested}
 use Rattle.std.specs.Prelude.{◌==◌, slice_get, slice_set, if◌then◌else◌}
 use Rattle.std.proofs.lemmas.Bool.Decides.{nat_tests}
-use Rattle.std.proofs.lemmas.Option.{slice_get_within, get_or_from_slice_get}
 use Rattle.abstract_protocol.specs.Numbers.{epoch_number}
 use Rattle.abstract_protocol.specs.Protocol.{State, Step, IsRun, state_after}
 use Rattle.ens_base.specs.Lists.{◌∈◌, is_in}
@@ -18,15 +17,17 @@ use Rattle.exchange.specs.declared.step.Step.{Step as Reply}
 use Rattle.exchange.specs.declared.step.Step.TheVariants as steps
 use Rattle.peer_fact.specs.declared.fact.Fact.{Fact}
 use Rattle.phase_rows.specs.Orders.{is_same}
+use Rattle.phase_rows.proofs.Epochs.{same_epochs}
 use Rattle.request_refinement.specs.Naming.{EntrySays}
 use Rattle.running_sync.specs.Asks.{anew, is_open, after_step, stepped, answered, place_of}
 use Rattle.running_sync.specs.Rows.{replied, taken_by}
 use Rattle.running_sync.specs.Running.{Running}
-use Rattle.running_sync.specs.Sends.{IsOfOther, AsksOthers}
+use Rattle.running_sync.specs.Sends.{IsOfOther}
 use Rattle.running_sync.specs.declared.asking.Asking.{Asking}
 use Rattle.running_sync.specs.declared.asking.Give.{Give}
 use Rattle.running_sync.specs.declared.asking.Stage.{Stage}
 use Rattle.running_sync.specs.declared.asking.Stage.TheVariants as stages
+use Rattle.running_sync.proofs.Others.{ask_is}
 use Rattle.sync_laws.proofs.Coverage.{give_counts, new_ask_holds}
 use Rattle.sync_laws.specs.Facts.{Lines}
 use Rattle.sync_laws.specs.Messages.{GiveSays}
@@ -47,7 +48,6 @@ use Rattle.sync_refinement.proofs.Counting.{done_is, ignored_is, damage_is, Rece
 use Rattle.sync_refinement.proofs.Scans.{scan_ascends, scan_own, lost_own}
 use Rattle.sync_refinement.proofs.Setting.{AskSays, source_of, ask_was, same_says, no_source, goes_on, finishes}
 use Rattle.election_laws.proofs.Epochs.{not_both}
-use Rattle.request_refinement.proofs.LeaderRefinement.{same_epochs}
 
 open_stage : (stage : Stage) → is_open stage ≡ true → stage ≡ stages.Open
 open_stage stages.Open h = refl
@@ -166,9 +166,6 @@ module _ (version : TreeVersion) (g : Lines) (s : State) (strings : List (List �
       by_open : (b : Bool) → is_open a.stage ≡ b → SyncSays version g s strings p fact trusted m (replied place (if b then stepped give.trusted next a else (steps.Ignored, a)) r).0
       by_open true h = step_says fits (open_stage a.stage h) next.0 refl
       by_open false h = same_says version g s strings p fact trusted m r old place a at a refl
-
-ask_is : (p : ℕ) (r : Running) (place : ℕ) (a : Asking) → AsksOthers p r → slice_get r.asks place ≡ Some a → IsOfOther p r.sync.view a
-ask_is p r place a others at = subst (IsOfOther p r.sync.view) (get_or_from_slice_get r.asks place a a at) (others place a (slice_get_within r.asks place a at))
 
 takes_say : (g : Lines) (s : State) → SyncsTake g s
 takes_say g s version strings p fact trusted m r from give own free position others fits node old = by_ballot (is_same give.ballot r.fact.epoch) refl

@@ -12,7 +12,8 @@ use Rattle.ens_base.proofs.Orders.{versions, both_equal, equal_versions}
 use Rattle.ens_base.specs.Epochs.{version_cmp}
 use Rattle.ens_base.specs.Lists.{bytes_cmp, ◌∈◌}
 use Rattle.ens_base.specs.declared.entry.Entry.{Entry}
-use Rattle.tree_node.specs.Entries.{AreAbove, is_above, is_less}
+use Rattle.tree_node.specs.Entries.{AreAbove, is_above}
+use Rattle.tree_node.proofs.Above.{above_less, less_above, not_above_itself}
 use Rattle.sync_rule.specs.Merges.{rank_cmp, is_lower, greater, with_entry, with_entries, merged, Ascend, Exceeds, IsMerge}
 
 -- ## The order of entries by version and digest
@@ -154,26 +155,15 @@ with_keeps e (y ∷ ys) x h = by (bytes_cmp e.key y.key) refl h (with_keeps e ys
     by Greater o (inl p) rest = rw o (x, inl p, exceeds_itself x)
     by Greater o (inr p) rest = rw o (further y (with_entry e ys) x (rest p))
 
-is_above_less : (j k : List ℕ) → bytes_cmp j k ≡ Less → is_above j k ≡ true
-is_above_less j k e = ap is_less e
-
 is_above_back : (j k : List ℕ) → bytes_cmp j k ≡ Greater → is_above k j ≡ true
-is_above_back j k e = is_above_less k j (nat_list_cmp_total.antisymm k j ∙ ap ordering_reverse e)
-
-less_above : (j k : List ℕ) → is_above j k ≡ true → bytes_cmp j k ≡ Less
-less_above j k h = by (bytes_cmp j k) refl
-  where
-    by : (o : Ordering) → bytes_cmp j k ≡ o → bytes_cmp j k ≡ Less
-    by Less e = e
-    by Equal e = let no : false ≡ true = sym (ap is_less e) ∙ h in absurd cc
-    by Greater e = let no : false ≡ true = sym (ap is_less e) ∙ h in absurd cc
+is_above_back j k e = above_less k j (nat_list_cmp_total.antisymm k j ∙ ap ordering_reverse e)
 
 above_with : (low : List ℕ) (e : Entry) (m : List Entry) → is_above low e.key ≡ true → AreAbove low m → AreAbove low (with_entry e m)
 above_with low e [] l a = (l, tt)
 above_with low e (y ∷ ys) l a = by (bytes_cmp e.key y.key) refl (λ b. above_with y.key e ys b a.1)
   where
     by : (o : Ordering) → bytes_cmp e.key y.key ≡ o → (is_above y.key e.key ≡ true → AreAbove y.key (with_entry e ys)) → AreAbove low (with_entry e (y ∷ ys))
-    by Less o rest = rw o (l, (is_above_less e.key y.key o, a.1))
+    by Less o rest = rw o (l, (above_less e.key y.key o, a.1))
     by Equal o rest = rw o (subst (λ (k : List ℕ). (is_above low k ≡ true) × AreAbove k ys) (sym (greater_key y e (exact_bytes e.key y.key o))) a)
     by Greater o rest = rw o (a.0, rest (is_above_back e.key y.key o))
 
@@ -182,7 +172,7 @@ ascend_with e [] a = tt
 ascend_with e (y ∷ ys) a = by (bytes_cmp e.key y.key) refl
   where
     by : (o : Ordering) → bytes_cmp e.key y.key ≡ o → Ascend (with_entry e (y ∷ ys))
-    by Less o = rw o (is_above_less e.key y.key o, a)
+    by Less o = rw o (above_less e.key y.key o, a)
     by Equal o = rw o (subst (λ (k : List ℕ). AreAbove k ys) (sym (greater_key y e (exact_bytes e.key y.key o))) a)
     by Greater o = rw o (above_with y.key e ys (is_above_back e.key y.key o) a)
 
@@ -256,11 +246,8 @@ above_all low [] x a h = absurd h
 above_all low (e ∷ es) x a (inl p) = subst (λ (k : List ℕ). bytes_cmp low k ≡ Less) (ap (λ (z : Entry). z.key) (sym p)) (less_above low e.key a.0)
 above_all low (e ∷ es) x a (inr p) = nat_list_cmp_total.trans low e.key x.key (less_above low e.key a.0) (above_all e.key es x a.1 p)
 
-not_itself : (k : List ℕ) → bytes_cmp k k ≡ Less → ⊥
-not_itself k l = let back : Less ≡ Greater = sym l ∙ nat_list_cmp_total.antisymm k k ∙ ap ordering_reverse l in absurd cc
-
 not_above : (a : Entry) (es : List Entry) (x : Entry) → AreAbove a.key es → x ∈ es → a.key ≡ x.key → ⊥
-not_above a es x above h k = not_itself x.key (subst (λ (j : List ℕ). bytes_cmp j x.key ≡ Less) k (above_all a.key es x above h))
+not_above a es x above h k = not_above_itself x.key (subst (λ (j : List ℕ). bytes_cmp j x.key ≡ Less) k (above_all a.key es x above h))
 
 tail_ascends : (low : List ℕ) (es : List Entry) → AreAbove low es → Ascend es
 tail_ascends low [] a = tt
@@ -305,7 +292,7 @@ same_lists (x ∷ xs) (y ∷ ys) a b f g = by (f x (inl refl)) (g y (inl refl)) 
     by : (x ≡ y) ⊎ (x ∈ ys) → (y ≡ x) ⊎ (y ∈ xs) → ((ns : List Entry) → Ascend xs → Ascend ns → ((z : Entry) → z ∈ xs → z ∈ ns) → ((z : Entry) → z ∈ ns → z ∈ xs) → xs ≡ ns) → x ∷ xs ≡ y ∷ ys
     by (inl p) q rest = joined p rest
     by (inr p) (inl q) rest = joined (sym q) rest
-    by (inr p) (inr q) rest = absurd (not_itself x.key (nat_list_cmp_total.trans x.key y.key x.key (above_all x.key xs y a q) (above_all y.key ys x b p)))
+    by (inr p) (inr q) rest = absurd (not_above_itself x.key (nat_list_cmp_total.trans x.key y.key x.key (above_all x.key xs y a q) (above_all y.key ys x b p)))
 
 pub only_one : (es m : List Entry) → IsMerge es m → m ≡ merged es
 only_one es m h =

@@ -40,7 +40,7 @@ entries_themselves : (xs : List Entry) → same_entries xs xs ≡ true
 entries_themselves [] = refl
 entries_themselves (x ∷ xs) = λ i. entry_itself x i && entries_themselves xs i
 
-none_is : (ps : List Position) → is_none ps ≡ true → ps ≡ []
+pub none_is : (ps : List Position) → is_none ps ≡ true → ps ≡ []
 none_is [] h = refl
 none_is (p ∷ ps) h = absurd cc
 

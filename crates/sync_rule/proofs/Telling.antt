@@ -9,7 +9,7 @@ use Rattle.sync_rule.specs.Syncs.{is_source, is_trusted_source, has_finished, is
 use Rattle.sync_rule.specs.declared.sync.Source.{Source}
 use Rattle.sync_rule.specs.declared.sync.Sync.{Sync}
 
-all_have : (finished : ℕ → Bool) (view : List ℕ) (p : ℕ) → has_all finished view ≡ true → p ∈ view → finished p ≡ true
+pub all_have : (finished : ℕ → Bool) (view : List ℕ) (p : ℕ) → has_all finished view ≡ true → p ∈ view → finished p ≡ true
 all_have finished [] p h m = absurd m
 all_have finished (x ∷ xs) p h (inl e) = grind arith
 all_have finished (x ∷ xs) p h (inr m) = all_have finished xs p (grind arith) m

@@ -31,10 +31,6 @@ pub depth_is : (v : TreeVersion) → (form_of v).depth ≡ levels v
 unfolding form_of
 depth_is v = refl
 
-pub position_of : (v : TreeVersion) (h : ℕ) (at : Position) → IsPlace (form_of v) h at → IsPosition v at
-unfolding form_of
-position_of v h at p = record { level = omega (arith, p.level); index = p.index }
-
 pub place_of : (v : TreeVersion) (at : Position) → IsPosition v at → IsPlace (form_of v) (levels v - at.level) at
 unfolding form_of
 place_of v at p = record { level = omega (arith, p.level); index = p.index }

@@ -9,18 +9,20 @@ use Rattle.ens_base.specs.Lists.{bytes_cmp}
 use Rattle.ens_hashing.specs.Hashing.{Book}
 use Rattle.ens_outside.specs.Stores.{NodeCall, NodeAnswer}
 use Rattle.ens_outside.specs.declared.errors.StoreError.{StoreError}
-use Rattle.tree_maps.specs.TreeNode.{Position, TreeVersion, InnerNode, NodeError, inner_spelling, segment_spelling, inner_of, is_less, is_above, IsNext, AreAbove, AreEntries, AreListed}
+use Rattle.tree_maps.specs.TreeNode.{Position, TreeVersion, InnerNode, NodeError, inner_spelling, segment_spelling, inner_of, IsNext, AreAbove, AreEntries, AreListed}
 use Rattle.tree_maps.specs.Entries.{IsBelowAll, Ascends, put}
 use Rattle.tree_maps.specs.Forms.{Form, child}
 use Rattle.tree_maps.specs.Sixteen.{form_of, spread, children_of, inner_node, segment, children_in}
 use Rattle.tree_maps.proofs.Parts.{ascends-put, below_trans}
-use Rattle.tree_maps.proofs.Formats.{above_of, key_above}
+use Rattle.tree_maps.proofs.Formats.{above_of}
+use Rattle.tree_maps.proofs.TreeNode.{less_above}
 use Rattle.synctree.specs.declared.error.TreeError.{TreeError}
 use Rattle.synctree.specs.Plans.{Call, AnswerOf, Did}
 use Rattle.synctree.specs.Walks.{open_node, reach, store, enter}
 use Rattle.synctree.proofs.Exits.{DidOutside, after, cut_off}
 use Rattle.synctree.proofs.Meaning.{opened}
 use Rattle.synctree.proofs.Places.{inner_is}
+use Rattle.tree_maps.proofs.TreeNode.{key_above}
 
 pub inner_text_is : (v : TreeVersion) (at : Position) (cs : List (Option (List ℕ))) → (form_of v).inner_text at cs ≡ inner_spelling (inner_node v at cs)
 unfolding form_of
@@ -52,17 +54,9 @@ width_of does refuses v at digest s t (Err e) d = tt
 
 -- ## Entries in order
 
-pub above_is_less : (a b : List ℕ) → is_above a b ≡ true → bytes_cmp a b ≡ Less
-above_is_less a b e = by (bytes_cmp a b) e
-  where
-    by : (o : Ordering) → is_less o ≡ true → o ≡ Less
-    by Less e = refl
-    by Equal e = absurd cc
-    by Greater e = absurd cc
-
 listed_below : (low : List ℕ) (es : List Entry) → AreListed IsNext (λ e. e.key) low es → IsBelowAll low es
 listed_below low [] a = tt
-listed_below low (e ∷ es) a = (above_is_less low e.key a.0.0, below_trans low e.key es (above_is_less low e.key a.0.0) (listed_below e.key es a.1))
+listed_below low (e ∷ es) a = (less_above low e.key a.0.0, below_trans low e.key es (less_above low e.key a.0.0) (listed_below e.key es a.1))
 
 listed_ascends : (low : List ℕ) (es : List Entry) → AreListed IsNext (λ e. e.key) low es → Ascends es
 listed_ascends low [] a = tt

@@ -1,5 +1,5 @@
 -- Keys that ascend, strictly or not.
-use Rattle.std.proofs.Common.{◌≡◌, ◌≢◌, ℕ, ◌+◌, ◌<◌, ◌≤◌, true, false, List, [], ◌∷◌, ◌++◌, length, get_or, map, take, drop, Option, None, Some, refl, ap, sym, ◌∙◌, subst, arith, take-append-drop}
+use Rattle.std.proofs.Common.{◌≡◌, ◌≢◌, ℕ, ◌+◌, ◌<◌, ◌≤◌, true, List, [], ◌∷◌, ◌++◌, length, get_or, map, take, drop, Option, None, Some, refl, ap, sym, ◌∙◌, subst, arith, take-append-drop}
 use Rattle.std.specs.List.{AllByRecursion, cons_option}
 use Rattle.std.specs.declared.cmp.Ordering.{Ordering}
 use Rattle.std.specs.declared.cmp.Ordering.TheVariants.{Less, Equal, Greater}
@@ -12,6 +12,7 @@ use Rattle.ens_fields.specs.Entries.{IsEntry}
 use Rattle.tree_maps.specs.Entries.{IsBelowAll, Ascends}
 use Rattle.tree_maps.proofs.Orders.{less_back, less_trans, cmp_equal}
 use Rattle.tree_maps.proofs.Slices.{drop_at}
+use Rattle.tree_maps.proofs.TreeNode.{less_above}
 use Rattle.tree_node.specs.Entries.{is_less, is_above, AreAbove}
 use Rattle.tree_node.specs.Repeats.{AreListed}
 use Rattle.tree_verify.specs.Sorted.{stepped, place, sorted}
@@ -21,16 +22,8 @@ use Rattle.tree_backup.specs.Items.{IsItem, IsNext, entries_of, objects_of, Keys
 use Rattle.tree_backup.specs.Order.{Rises, IsTwice}
 use Rattle.tree_backup.proofs.Matches.{key_named}
 
-pub above_less : (a b : List ℕ) → is_above a b ≡ true → bytes_cmp a b ≡ Less
-above_less a b h = by (bytes_cmp a b) refl
-  where
-    by : (o : Ordering) → bytes_cmp a b ≡ o → bytes_cmp a b ≡ Less
-    by Less e = e
-    by Equal e = let no : true ≡ false = sym h ∙ ap is_less e in absurd cc
-    by Greater e = let no : true ≡ false = sym h ∙ ap is_less e in absurd cc
-
 above_trans : (a b c : List ℕ) → is_above a b ≡ true → is_above b c ≡ true → is_above a c ≡ true
-above_trans a b c h k = ap is_less (less_trans a b c (above_less a b h) (above_less b c k))
+above_trans a b c h k = ap is_less (less_trans a b c (less_above a b h) (less_above b c k))
 
 pub lower : (low key : List ℕ) (keys : List (List ℕ)) → is_above low key ≡ true → KeysAbove key keys → KeysAbove low keys
 lower low key [] h up = tt
@@ -65,11 +58,11 @@ objects_push xs x = filter_map-append (λ (y : Item). y.object) xs (x ∷ [])
 
 below_all : (key low : List ℕ) (es : List Entry) → bytes_cmp key low ≡ Less → AreAbove low es → IsBelowAll key es
 below_all key low [] l up = tt
-below_all key low (e ∷ es) l up = let m : bytes_cmp key e.key ≡ Less = less_trans key low e.key l (above_less low e.key up.0) in (m, below_all key e.key es m up.1)
+below_all key low (e ∷ es) l up = let m : bytes_cmp key e.key ≡ Less = less_trans key low e.key l (less_above low e.key up.0) in (m, below_all key e.key es m up.1)
 
 below_first : (key : List ℕ) (es : List Entry) → AreAbove key es → IsBelowAll key es
 below_first key [] up = tt
-below_first key (e ∷ es) up = let l : bytes_cmp key e.key ≡ Less = above_less key e.key up.0 in (l, below_all key e.key es l up.1)
+below_first key (e ∷ es) up = let l : bytes_cmp key e.key ≡ Less = less_above key e.key up.0 in (l, below_all key e.key es l up.1)
 
 pub ascends_of : (low : List ℕ) (es : List Entry) → AreAbove low es → Ascends es
 ascends_of low [] up = tt

@@ -27,9 +27,6 @@ pub error_rose : (A B : Type 0) (before now : ℕ) (e : StoreError) → StoreCou
 error_rose A B before now Failed h is = h.1
 error_rose A B before now Memory h is = absurd cc
 
-pub rose_later : (a b c : ℕ) → a ≤ b → Rose b c → Rose a c
-rose_later a b c later rose = omega (arith, later, rose)
-
 -- memory is no failure
 pub not_failed : {T : Type 0} (r : Result T StoreError) → IfErr r (λ e. e ≡ Memory) → IsErrOf r Failed → ⊥
 not_failed (Ok x) h is = cc
@@ -37,7 +34,7 @@ not_failed (Err Failed) h is = cc
 not_failed (Err Memory) h is = cc
 
 module _ {S : Type 0} (may : S → (call : BackendCall) → BackendAnswer call → S → Type 0) (loses : S → BackendCall → StoreError → S → Type 0) where
-  fetch_memory : (es : List Entry) (s : S) → FetchStops may loses es s Memory s
+  pub fetch_memory : (es : List Entry) (s : S) → FetchStops may loses es s Memory s
   fetch_memory [] s = (refl, refl)
   fetch_memory (e ∷ es) s = inl (refl, refl)
 
@@ -97,9 +94,6 @@ module _ {S : Type 0} (may : S → (call : BackendCall) → BackendAnswer call �
   fetch_done all i items s u le on =
       let end : FetchesOn all [] items s u = subst (λ (es : List Entry). FetchesOn all es items s u) (drop_all all i le) on in
       subst (λ (ys : List Item). Fetches may all s ys u) (append-nil items) (end.ends [] u (refl, refl))
-
-  pub fetch_at_once : (all : List Entry) (s : S) → FetchStops may loses all s Memory s
-  fetch_at_once all s = fetch_memory all s
 
   -- the items that were fetched are those of the entries
   pub fetched_entries : (es : List Entry) (s t : S) (items : List Item) → Fetches may es s items t → entries_of items ≡ es

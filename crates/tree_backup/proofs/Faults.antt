@@ -2,6 +2,7 @@
 use Rattle.std.proofs.Common.{◌≡◌, ◌≤◌, ℕ, List, [], ◌∷◌, Option, Result, Ok, Err, refl, ap, sym, subst, inl, inr, arith}
 use Rattle.ens_base.specs.Causes.{Rose}
 use Rattle.ens_base.specs.declared.entry.Entry.{Entry}
+use Rattle.ens_base.proofs.Causes.{rose_later}
 use Rattle.ens_hashing.specs.Hashing.{Book}
 use Rattle.ens_hashing.specs.declared.error.HashError.{HashError}
 use Rattle.ens_hashing.specs.declared.error.HashError.TheVariants as hashes
@@ -84,9 +85,6 @@ module _ {N H : Type 0} (may : N → (call : NodeCall) → NodeAnswer call → N
   does_later : (s : N × H) (call : Call) (a : AnswerOf call) (t : N × H) → Does s call a t → n s.0 ≤ n t.0
   does_later s (Node call) a t did = did.2
   does_later s (Hash bytes) a t did = same_count s t did.0
-
-  rose_later : (before between now : ℕ) → before ≤ between → Rose between now → Rose before now
-  rose_later before between now later rose = omega (arith, later, rose)
 
   refused_rose : (s : N × H) (call : Call) (t : N × H) → Refuses s call trees.Failed t → Rose (n s.0) (n t.0)
   refused_rose s (Node call) t off = off.3

@@ -15,16 +15,16 @@ use Rattle.ens_fields.specs.declared.fault.Fault.{Fault}
 use Rattle.ens_fields.specs.declared.fault.Fault.TheVariants as faults
 use Rattle.ens_fields.specs.declared.field_error.FieldError.{FieldError}
 use Rattle.ens_fields.specs.declared.field_error.FieldError.TheVariants as fields
-use Rattle.ens_fields.proofs.EntryLaws.{remade}
-use Rattle.ens_fields.proofs.FieldLaws.{key_grammar, version_grammar}
+use Rattle.ens_fields.proofs.FieldLaws.{key_grammar}
 use Rattle.ens_fields.proofs.GrammarLaws.{Reader, valid_as, spelled_as, field_then, field_last, tested, checked, nothing, right, ok_is, whole_found, whole_again}
 use Rattle.ens_fields.proofs.NumberLaws.{byte_grammar, u16_grammar, u32_grammar, run_grammar}
 use Rattle.ens_object.proofs.ObjectLaws.{object_grammar}
 use Rattle.ens_object.specs.Objects.{IsObject, object_spelling}
 use Rattle.ens_object.specs.declared.error.ObjectRule.{ObjectRule}
 use Rattle.ens_object.specs.declared.object.Object.{Object}
-use Rattle.tree_node.specs.Entries.{is_above, rest_at}
+use Rattle.tree_node.specs.Entries.{is_above}
 use Rattle.tree_node.proofs.RepeatLaws.{list_grammar}
+use Rattle.tree_node.proofs.EntryLaws.{rest_grammar}
 use Rattle.tree_backup.specs.declared.error.BackupError.{BackupError}
 use Rattle.tree_backup.specs.declared.error.BackupError.TheVariants.{Trailing, BadTag, Order, Memory}
 use Rattle.tree_backup.specs.declared.item.Backup.{Backup}
@@ -94,12 +94,6 @@ tags_grammar =
     (λ m _ is. valid_as (λ n h. ((tt, sym is), h)) (λ n h. h.1) versions_grammar))
 
 -- ## Items
-
-rest_grammar : (key : List ℕ) → IsGrammar (λ (e : Entry). (Unit {0} × (e.key ≡ key)) × (IsVersion e.version × IsRun 16 e.digest)) (λ e. version_spelling e.version ++ e.digest) (rest_at key)
-unfolding rest_at
-rest_grammar key =
-    field_then version_grammar (λ (e : Entry). e.version) _
-    (λ version _ _. field_last (run_grammar 16) (λ (e : Entry). e.digest) (λ digest. record { key = key; version = version; digest = digest }) {P = λ e. (Unit {0} × (e.key ≡ key)) × (e.version ≡ version)} (λ _. refl) (λ _. ((tt, refl), refl)) (λ e h. remade e key version (sym h.0.1) (sym h.1)))
 
 entry_grammar : (low : List ℕ) → IsGrammar (λ (e : Entry). (is_above low e.key ≡ true) × IsEntry e) entry_spelling (entry_at low)
 unfolding entry_at

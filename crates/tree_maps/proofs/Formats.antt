@@ -1,23 +1,22 @@
 -- Decoding what the tree of a version encodes gives the same node.
-use Rattle.std.proofs.Common.{◌≡◌, ℕ, zero, suc, ◌+◌, ◌*◌, ◌/◌, ◌%◌, ◌<◌, ◌≤◌, ◌^◌, Bool, true, false, cond, List, [], ◌∷◌, Option, None, Some, length, refl, ap, ◌∙◌, subst, arith}
+use Rattle.std.proofs.Common.{◌≡◌, ℕ, zero, suc, ◌+◌, ◌*◌, ◌/◌, ◌%◌, ◌<◌, ◌^◌, Bool, true, false, cond, List, [], ◌∷◌, Option, None, Some, length, refl, ap, ◌∙◌, subst, arith}
 use Rattle.std.specs.Prelude.{slice_index, count_ones, ◌==◌}
 use Rattle.std.specs.List.{AllByRecursion}
-use Rattle.std.specs.declared.cmp.Ordering.TheVariants.{Less}
 use native.Mathlib.Nat.{pow-suc}
 use lib.Count.{ones_step, ones-le}
 use Rattle.std.proofs.lemmas.Bool.Decides.{nat_tests}
 use Rattle.md5.specs.Md5.{md5}
 use Rattle.ens_base.specs.declared.entry.Entry.{Entry}
-use Rattle.ens_base.specs.Lists.{bytes_cmp}
 use Rattle.ens_fields.specs.Entries.{IsEntry}
 use Rattle.tree_node.specs.declared.position.Position.{Position}
 use Rattle.tree_node.specs.declared.version.TreeVersion.{TreeVersion}
 use Rattle.tree_node.specs.TreeVersions.{levels}
 use Rattle.tree_node.specs.Positions.{IsPosition}
-use Rattle.tree_node.specs.Entries.{is_less, is_above, AreAbove, AreDigests}
+use Rattle.tree_node.specs.Entries.{AreAbove, AreDigests}
 use Rattle.tree_node.specs.Nodes.{inner_spelling, segment_spelling, inner_of, segment_of}
 use Rattle.tree_node.proofs.EntryLaws.{entries_valid}
 use Rattle.tree_node.proofs.NodeLaws.{inner_again, segment_again}
+use Rattle.tree_node.proofs.Above.{above_less, key_above}
 use Rattle.tree_maps.specs.Entries.{IsBelowAll, Ascends, IsMap}
 use Rattle.tree_maps.specs.Forms.{IsPlace, AreNames, Laws}
 use Rattle.tree_maps.specs.Sixteen.{nibble, mask_of, digests_of, spread, children_of, inner_node, segment, children_in, entries_in, form_of}
@@ -62,20 +61,13 @@ names_digests [] a = tt
 names_digests (None ∷ cs) a = names_digests cs a
 names_digests (Some d ∷ cs) a = (a.0, names_digests cs a.1)
 
-place_position : (v : TreeVersion) (h : ℕ) (at : Position) → IsPlace (form_of v) h at → IsPosition v at
+pub place_position : (v : TreeVersion) (h : ℕ) (at : Position) → IsPlace (form_of v) h at → IsPosition v at
 unfolding form_of
 place_position v h at p = record { level = omega (arith, p.level); index = p.index }
-
-above_less : (low key : List ℕ) → bytes_cmp low key ≡ Less → is_above low key ≡ true
-above_less low key e = ap is_less e
 
 pub above_of : (low : List ℕ) (es : List Entry) → IsBelowAll low es → Ascends es → AreAbove low es
 above_of low [] b a = tt
 above_of low (e ∷ es) b a = (above_less low e.key b.0, above_of e.key es a.0 a.1)
-
-pub key_above : (key : List ℕ) → 1 ≤ length key → is_above [] key ≡ true
-key_above [] l = absurd (omega arith)
-key_above (x ∷ key) l = refl
 
 pub map_above : (m : List Entry) → AllByRecursion IsEntry m → Ascends m → AreAbove [] m
 map_above [] all a = tt

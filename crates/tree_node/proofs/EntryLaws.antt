@@ -18,7 +18,7 @@ use Rattle.tree_node.specs.Entries.{is_above, key_or_none, last_key, AreAbove, I
 use Rattle.tree_node.specs.Repeats.{AreListed}
 use Rattle.tree_node.proofs.RepeatLaws.{list_grammar}
 
-rest_grammar : (key : List ℕ) → IsGrammar (λ (e : Entry). (Unit {0} × (e.key ≡ key)) × (IsVersion e.version × IsRun 16 e.digest)) (λ e. version_spelling e.version ++ e.digest) (rest_at key)
+pub rest_grammar : (key : List ℕ) → IsGrammar (λ (e : Entry). (Unit {0} × (e.key ≡ key)) × (IsVersion e.version × IsRun 16 e.digest)) (λ e. version_spelling e.version ++ e.digest) (rest_at key)
 unfolding rest_at
 rest_grammar key =
     field_then version_grammar (λ (e : Entry). e.version) _

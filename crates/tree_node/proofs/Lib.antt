@@ -5,3 +5,4 @@ pub mod EntryLaws
 pub mod NodeLaws
 pub mod NodeFaults
 pub mod WholeNodeFaults
+pub mod Above

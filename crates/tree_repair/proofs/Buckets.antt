@@ -13,7 +13,7 @@ use Rattle.tree_maps.specs.Maps.{text}
 use Rattle.tree_maps.specs.Paths.{passes, under, present, node_of}
 use Rattle.tree_maps.proofs.Orders.{less_trans}
 use Rattle.tree_maps.proofs.Slices.{take_at}
-use Rattle.synctree.proofs.Puts.{above_is_less as above_less}
+use Rattle.tree_maps.proofs.TreeNode.{less_above as above_less}
 use Rattle.tree_repair.specs.Builds.{place}
 use Rattle.tree_repair.specs.Levels.{index_of, is_there, indexes_of}
 use Rattle.tree_repair.specs.Runs.{IsRun}

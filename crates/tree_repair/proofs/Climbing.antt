@@ -1,5 +1,6 @@
 -- A build, level by level.
 use Rattle.std.proofs.Common.{◌≡◌, ℕ, suc, ◌+◌, ◌-◌, ◌<◌, List, [], ◌∷◌, ◌++◌, Option, Some, length, get_or, map, ap, sym, ◌∙◌, subst, arith, append_assoc}
+use Rattle.std.proofs.lemmas.List.{map-append}
 use Rattle.ens_hashing.specs.Hashing.{Book}
 use Rattle.md5.specs.Md5.{md5}
 use Rattle.ens_base.specs.declared.entry.Entry.{Entry}
@@ -13,7 +14,7 @@ use Rattle.synctree.proofs.Places.{depth_is}
 use Rattle.tree_verify.specs.Hashers.{digest_if}
 use Rattle.tree_repair.specs.Builds.{somes, level_of, nodes_down, build_nodes, stored}
 use Rattle.tree_repair.specs.Levels.{indexes_of, texts_of, names_of}
-use Rattle.tree_repair.proofs.Lists.{map_append, somes_cons, get_map_or}
+use Rattle.tree_repair.proofs.Lists.{somes_cons, get_map_or}
 use Rattle.tree_repair.specs.Admitting.{Admitted, Rejected, AdmitsAll}
 use Rattle.tree_repair.proofs.Admissions.{admits_then, memory_after, rejected_on}
 use Rattle.ens_hashing.specs.declared.error.HashError.{HashError}
@@ -54,7 +55,7 @@ down_step v l m texts b is = ap (λ (ts : List (List ℕ)). nodes_down (form_of 
 pub nodes_more : (xs ys zs : List (List ℕ)) (old between new : List StoredNode) → between ≡ old ++ map stored xs → new ≡ between ++ map stored ys → xs ++ ys ≡ zs → new ≡ old ++ map stored zs
 nodes_more xs ys zs old between new e is same =
     is ∙ ap (λ (ns : List StoredNode). ns ++ map stored ys) e ∙ append_assoc old (map stored xs) (map stored ys)
-    ∙ ap (λ (ns : List StoredNode). old ++ ns) (sym (map_append stored xs ys) ∙ ap (map stored) same)
+    ∙ ap (λ (ns : List StoredNode). old ++ ns) (sym (map-append stored xs ys) ∙ ap (map stored) same)
 
 pub all_nodes : (v : TreeVersion) (m : List Entry) → nodes_down (form_of v) (levels v - 0) 0 m ≡ build_nodes (form_of v) m
 all_nodes v m = let height : levels v - 0 ≡ (form_of v).depth = omega (arith, depth_is v) in ap (λ (h : ℕ). nodes_down (form_of v) h 0 m) height
@@ -73,7 +74,7 @@ name_is names texts i name text e l is at = is ∙ ap (λ (ns : List (Option (Li
 pub kept_more : (x : Option (List ℕ)) (rest : List (Option (List ℕ))) (old new all : List StoredNode) → new ≡ old ++ map stored (somes (x ∷ [])) → old ++ map stored (somes (x ∷ rest)) ≡ all → new ++ map stored (somes rest) ≡ all
 kept_more x rest old new all is e = ap (λ (ns : List StoredNode). ns ++ map stored (somes rest)) is
     ∙ append_assoc old (map stored (somes (x ∷ []))) (map stored (somes rest))
-    ∙ ap (λ (ns : List StoredNode). old ++ ns) (sym (ap (map stored) (somes_cons x rest) ∙ map_append stored (somes (x ∷ [])) (somes rest))) ∙ e
+    ∙ ap (λ (ns : List StoredNode). old ++ ns) (sym (ap (map stored) (somes_cons x rest) ∙ map-append stored (somes (x ∷ [])) (somes rest))) ∙ e
 
 module _ {H : Type 0} (kept : H → Option Book) (clashes fulls : H → ℕ) where
   -- the lowest level was tried

@@ -17,6 +17,7 @@ use Rattle.tree_node.proofs.TreeVersionLaws.{levels_few, position_deepest}
 use Rattle.tree_maps.specs.Forms.{Form, Laws, child}
 use Rattle.tree_maps.specs.Sixteen.{form_of, nibble}
 use Rattle.tree_maps.proofs.Formats.{form_laws}
+use Rattle.tree_maps.proofs.Below.{some_width}
 use Rattle.synctree.proofs.Places.{width_is, depth_is, digit_is}
 use Rattle.tree_maps.specs.Paths.{passes, under}
 use Rattle.tree_repair.specs.Builds.{place}
@@ -45,9 +46,6 @@ digits_test w a d i l = by (a == i / w) (d == i % w) refl refl
     by false q e f = sym (ne_eqb (w * a + d) i (λ s. let is : a ≡ i / w = sym (quotient w a d l) ∙ ap (λ (n : ℕ). n / w) s in let bad : true ≡ false = sym (eq-eqb a (i / w) is) ∙ e in absurd cc))
 
 module _ (F : Form) (laws : Laws F) where
-  pub some_width : 0 < F.width
-  some_width = omega (arith, laws.in_width [] 0)
-
   pub index_below : (l : ℕ) (key : List ℕ) → index_of F l key < F.width ^ l
   index_below zero key = let one : F.width ^ 0 ≡ 1 = pow-zero F.width in omega arith
   index_below (suc l) key = omega (arith, mul-add-lt (index_of F l key) F.width (F.digit key l) (F.width ^ l) (index_below l key) (laws.in_width key l), pow-suc F.width l)
@@ -58,7 +56,7 @@ module _ (F : Form) (laws : Laws F) where
 
   -- its parent is a node of the level before
   pub parent_below : (l i : ℕ) → i < F.width ^ suc l → i / F.width < F.width ^ l
-  parent_below l i b = (div-lt_iff_lt-mul {k = F.width} {x = i} {y = F.width ^ l} some_width).1 (let wide = rw (pow-suc F.width l) at b in omega (arith, wide))
+  parent_below l i b = (div-lt_iff_lt-mul {k = F.width} {x = i} {y = F.width ^ l} (some_width F laws)).1 (let wide = rw (pow-suc F.width l) at b in omega (arith, wide))
 
   pub passes_index : (l : ℕ) (key : List ℕ) (i : ℕ) → i < F.width ^ l → passes F key l i ≡ (index_of F l key == i)
   passes_index zero key i b = let few = rw (pow-zero F.width) at b in sym (eq-eqb 0 i (omega (arith, few)))

@@ -11,6 +11,7 @@ use Rattle.std.proofs.lemmas.Bool.{ne_eqb, eq-eqb, or_right}
 use native.Mathlib.Nat.{pow-suc, pow-zero}
 use Rattle.md5.specs.Md5.{md5}
 use Rattle.ens_base.specs.declared.entry.Entry.{Entry}
+use Rattle.ens_base.proofs.Tests.{same_test}
 use Rattle.tree_node.specs.declared.version.TreeVersion.{TreeVersion}
 use Rattle.tree_node.specs.TreeVersions.{levels}
 use Rattle.tree_maps.specs.Forms.{Form, Laws, root, child}
@@ -18,7 +19,7 @@ use Rattle.tree_maps.specs.Maps.{each_of, within, named, text, children}
 use Rattle.tree_maps.specs.Paths.{under, present, node_of}
 use Rattle.tree_maps.specs.Sixteen.{form_of}
 use Rattle.tree_maps.proofs.Parts.{set-each, each-none}
-use Rattle.tree_maps.proofs.Below.{under_child, every}
+use Rattle.tree_maps.proofs.Below.{under_child, every, some_width}
 use Rattle.tree_maps.proofs.Formats.{form_laws}
 use Rattle.synctree.proofs.Places.{width_is, depth_is}
 use Rattle.tree_verify.specs.Hashers.{digest_if}
@@ -29,13 +30,8 @@ use Rattle.tree_repair.specs.Runs.{IsRun}
 use Rattle.tree_repair.specs.declared.runs.Run.{Run}
 use Rattle.tree_repair.proofs.Lists.{each_from, map_map, length_of_map}
 use Rattle.tree_repair.proofs.Numbers.{Rises, has, has_at, each_once, non_decreasing_of}
-use Rattle.tree_repair.proofs.Indexes.{quotient, remainder, some_width, child_below, parent_below}
+use Rattle.tree_repair.proofs.Indexes.{quotient, remainder, child_below, parent_below}
 use Rattle.tree_repair.proofs.Buckets.{has_items, shown_items, shown_text}
-
-same_test : (a b : Bool) → (a ≡ true → b ≡ true) → (b ≡ true → a ≡ true) → a ≡ b
-same_test true b f g = sym (f refl)
-same_test false true f g = g refl
-same_test false false f g = refl
 
 -- ## The numbers from lo on that pass a test
 

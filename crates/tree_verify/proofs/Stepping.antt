@@ -19,11 +19,12 @@ use Rattle.tree_maps.specs.Forms.{Form, IsPlace, child, root}
 use Rattle.tree_maps.specs.Sixteen.{form_of, children_in, entries_in as segment_entries}
 use Rattle.tree_maps.proofs.Unique.{child_place}
 use Rattle.tree_maps.proofs.Slices.{take_at}
+use Rattle.tree_maps.proofs.Formats.{place_position}
 use Rattle.synctree.specs.Answers.{Makes}
 use Rattle.synctree.specs.declared.error.TreeError.{TreeError}
 use Rattle.synctree.specs.declared.error.TreeError.TheVariants.{Memory}
 use Rattle.synctree.proofs.Exits.{DidOutside, after, cut_off, made_did, memory_did, passed_on}
-use Rattle.synctree.proofs.Places.{width_is, inner_is, segment_is, position_of, place_of}
+use Rattle.synctree.proofs.Places.{width_is, inner_is, segment_is, place_of}
 use Rattle.synctree.proofs.Puts.{read_width}
 use Rattle.tree_verify.specs.declared.slot.Slot.{Slot}
 use Rattle.tree_verify.specs.Hashers.{digest_if, agree}
@@ -130,7 +131,7 @@ child_are : (v : TreeVersion) (h i : ℕ) (at : Position) (names : List (Option 
 child_are v h i at [] p l few = All-nil (IsSlot v h)
 child_are v h i at (None ∷ names) p l few = child_are v h (i + 1) at names p l (omega arith)
 child_are v h i at (Some d ∷ names) p l few = All-cons (IsSlot v h) (slot (child (form_of v) at i) (Some d)) (child_slots (form_of v) at (i + 1) names)
-    (record { position = position_of v h (child (form_of v) at i) (child_place (form_of v) h at i (wide i (omega arith)) p); below = sum at.level h l })
+    (record { position = place_position v h (child (form_of v) at i) (child_place (form_of v) h at i (wide i (omega arith)) p); below = sum at.level h l })
     (child_are v h (i + 1) at names p l (omega arith))
   where
     wide : (c : ℕ) → c < 16 → c < (form_of v).width

@@ -138,7 +138,7 @@ count_some : (p : Bool) (i d n : ℕ) → one_if (p && d == i) + one_if (p && (n
 count_some false i d n = refl
 count_some true i d n = grind (arith, nat_tests)
 
-named_some : (l : List Entry) (t d : List ℕ) → named l t ≡ Some d → d ≡ md5 t
+pub named_some : (l : List Entry) (t d : List ℕ) → named l t ≡ Some d → d ≡ md5 t
 named_some [] t d e = absurd cc
 named_some (x ∷ l) t d e = cc
 

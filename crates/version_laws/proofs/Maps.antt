@@ -24,6 +24,14 @@ zero_not v h e = low (ap epoch_of e)
 pub eq_same_bytes : (a b : List ℕ) → a ≡ b → same_bytes a b ≡ true
 eq_same_bytes a b h = (bytes_decides a b).1 h
 
+-- maps that agree at a key agree there with one entry set
+pub set_same : (m n : Map) (j : List ℕ) (v : ℕ) (k : List ℕ) → m k ≡ n k → set_entry m j v k ≡ set_entry n j v k
+set_same m n j v k e = by_key (same_bytes j k) refl
+  where
+    by_key : (b : Bool) → same_bytes j k ≡ b → set_entry m j v k ≡ set_entry n j v k
+    by_key true is = rw is refl
+    by_key false is = rw is e
+
 -- what holds of the new entry at its key, and of each old one, holds of each entry
 pub entry_then : (m : Map) (k : List ℕ) (v : ℕ) (P : List ℕ → ℕ → Type 0) → P k v → ((j : List ℕ) → P j (m j)) → (j : List ℕ) → P j (set_entry m k v j)
 entry_then m k v P here old j = by_cases (same_bytes k j) refl

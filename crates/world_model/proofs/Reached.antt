@@ -3,7 +3,7 @@ use Rattle.std.proofs.Common.{◌≡◌, ◌∙◌, ◌<◌, ◌-◌, ◌⊎◌,
 use Rattle.std.specs.Prelude.{IfErr, OnOk}
 use Rattle.std.specs.Result.{IsErrAnd}
 use Rattle.std.proofs.lemmas.List.{append-nil}
-use Rattle.world_spec.proofs.HeldStores.{hashed_none, rejected_further, rejected_after, rose_since}
+use Rattle.world_spec.proofs.HeldStores.{hashed_none, rejected_further, rejected_after}
 use Rattle.world_spec.specs.HeldStores.{Account, HasHashed, StartsWith}
 use Rattle.world_spec.proofs.Growth.{IsFurther, changed_hashed, changed_mail, fewer_first}
 use Rattle.world_spec.specs.Lines.{with_damage}
@@ -16,6 +16,7 @@ use Rattle.world_model.specs.Worlds.{run_of, MayRefuse, MayStop, Adds, Reaches, 
 use Rattle.world_model.specs.declared.error.WorldError.{WorldError}
 use Rattle.world_model.specs.declared.error.WorldError.TheVariants.{Clash, BookFull, MessageLimit, Memory}
 use Rattle.world_model.specs.declared.world.World.{World}
+use Rattle.ens_base.proofs.Causes.{rose_later}
 
 -- what cuts off some strings cuts off more of them
 pub cut_off_further : (xs ys : List (List ℕ)) (first now : Account) (e : WorldError) → StartsWith xs ys → IsCutOff xs first now e → IsCutOff ys first now e
@@ -28,8 +29,8 @@ cut_off_further xs ys first now (BookFull bytes) starts cut = (let filled = cut.
 pub cut_off_after : (xs ys : List (List ℕ)) (first mid now : Account) (e : WorldError) → HasHashed xs first mid → IsCutOff ys mid now e → IsCutOff (xs ++ ys) first now e
 cut_off_after xs ys first mid now MessageLimit has cut = absurd cut
 cut_off_after xs ys first mid now Memory has cut = tt
-cut_off_after xs ys first mid now (Clash kept new) has cut = (rejected_after xs ys first mid new now has cut.0, cut.1, cut.2, rose_since first.clashes mid.clashes now.clashes has.clashes cut.3)
-cut_off_after xs ys first mid now (BookFull bytes) has cut = (let filled = cut.0 in (filled.0, rejected_after xs ys first mid filled.0 now has filled.1, rose_since first.fulls mid.fulls now.fulls has.fulls filled.2, filled.3), cut.1)
+cut_off_after xs ys first mid now (Clash kept new) has cut = (rejected_after xs ys first mid new now has cut.0, cut.1, cut.2, rose_later first.clashes mid.clashes now.clashes has.clashes cut.3)
+cut_off_after xs ys first mid now (BookFull bytes) has cut = (let filled = cut.0 in (filled.0, rejected_after xs ys first mid filled.0 now has filled.1, rose_later first.fulls mid.fulls now.fulls has.fulls filled.2, filled.3), cut.1)
 
 -- an error that was passed on
 pub errs : {T : Type 0} (P : WorldError → Type 0) (r : Result T WorldError) (G : WorldError → Type 0) (e : WorldError) → IsErrAnd r G → ((d : WorldError) → G d → d ≡ e) → P e → IfErr r P

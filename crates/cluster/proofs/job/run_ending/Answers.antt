@@ -6,7 +6,7 @@ use Rattle.replay.specs.Jobs.{hashed_by}
 use Rattle.cluster.specs.Ends.{recorded_schedule}
 use Rattle.cluster.proofs.Outcomes.{done_ends, memory_ends, run_ends_as, stop_ends, took}
 use Rattle.cluster.proofs.job.run_ending.Goals as goal
-use Rattle.frame_index.proofs.Lookups.{on_err}
+use Rattle.ens_base.proofs.Tests.{on_err}
 
 pub returns-in_ok-text-in-Ok-clause-ends : goal.returns-in_ok-text-in-Ok-clause-ends
 returns-in_ok-text-in-Ok-clause-ends g c =

@@ -1,8 +1,9 @@
 use Rattle.std.proofs.Common.{refl, sym, subst}
 use Rattle.ens_base.specs.declared.status.Status.{Status}
 use Rattle.ens_base.specs.declared.status.Status.TheVariants as status
+use Rattle.ens_base.proofs.Statuses.{memory_not_done, memory_no_fault}
 use Rattle.record_report.specs.Printed.{PrintsReport}
-use Rattle.record_report.proofs.Printing.{not_done, not_read_fault, writes_no_fault}
+use Rattle.record_report.proofs.Printing.{writes_no_fault}
 use Rattle.record_report.proofs.job.print_report.Goals as goal
 
 pub write_ending-requires : goal.write_ending-requires
@@ -17,4 +18,4 @@ pub returns-in-Ok-clause-front : goal.returns-in-Ok-clause-front
 returns-in-Ok-clause-front g c = λ fault. (c.in-Ok.audited.status, c.in-Ok.audited.text.items, c.in-Ok.ensures.printed, c.in-Ok.ensures.end, c.in-Ok.ensures.read, c.in-Ok.ensures.cut, c.write_ending.ensures.front fault)
 
 pub returns-in-Err-clause-front : goal.returns-in-Err-clause-front
-returns-in-Err-clause-front g c = λ fault. (status.Memory, _, refl, (λ is. absurd (not_done is)), (λ is. absurd (not_read_fault is)), (λ is. absurd (not_read_fault is)), c.finish.ensures.front fault)
+returns-in-Err-clause-front g c = λ fault. (status.Memory, _, refl, (λ is. absurd (memory_not_done is)), (λ is. absurd (memory_no_fault is)), (λ is. absurd (memory_no_fault is)), c.finish.ensures.front fault)

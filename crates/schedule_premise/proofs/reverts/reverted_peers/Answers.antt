@@ -2,11 +2,12 @@ use Rattle.std.proofs.Common.{Bool, List, sym, ap, subst, ◌∙◌}
 use Rattle.ens_base.specs.PeerSet.{holds}
 use Rattle.schedule_text.specs.Spelling.{MayStand}
 use Rattle.schedule_text.specs.declared.event.ScheduleEvent.{ScheduleEvent}
-use Rattle.schedule_premise.proofs.Lines.{held_by_none, stands_at}
+use Rattle.schedule_premise.proofs.Lines.{stands_at}
 use Rattle.schedule_premise.proofs.reverts.reverted_peers.Goals as goal
+use Rattle.joint_views.proofs.Sets.{none_held}
 
 pub loop-event-init : goal.loop-event-init
-loop-event-init c = λ p. ap (λ (set : List Bool). holds set p) c.empty-reverted.ensures ∙ held_by_none p
+loop-event-init c = λ p. ap (λ (set : List Bool). holds set p) c.empty-reverted.ensures ∙ none_held p
 
 pub note_revert-requires : goal.note_revert-requires
 note_revert-requires c =

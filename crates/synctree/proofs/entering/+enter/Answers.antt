@@ -2,18 +2,18 @@ use Rattle.std.proofs.Common.{◌<◌, ◌∙◌, ◌-◌, get_or, replicate, ap
 use Rattle.tree_maps.specs.TreeNode.{Position}
 use Rattle.tree_maps.proofs.TreeNode.{levels_few, position_deepest}
 use Rattle.tree_maps.specs.Sixteen.{form_of, nibble}
-use Rattle.tree_maps.proofs.Formats.{nibble_below}
+use Rattle.tree_maps.proofs.Formats.{nibble_below, place_position}
 use Rattle.synctree.specs.Walks.{reach, store, enter}
 use Rattle.synctree.proofs.Exits.{DidOutside}
-use Rattle.synctree.proofs.Places.{position_of, level_below, digit_is, place_below, width_is}
+use Rattle.synctree.proofs.Places.{level_below, digit_is, place_below, width_is}
 use Rattle.synctree.proofs.Puts.{enter_err, enter_below_err, enter_ok}
 use Rattle.synctree.proofs.entering.+enter.Goals as goal
 
 pub enter_in_segment-requires : goal.enter_in_segment-requires
-enter_in_segment-requires g t c = position_of c.args.version c.args.height c.args.at c.requires.place
+enter_in_segment-requires g t c = place_position c.args.version c.args.height c.args.at c.requires.place
 
 pub reach_inner-requires : goal.reach_inner-requires
-reach_inner-requires g t c = position_of c.args.version c.args.height c.args.at c.requires.place
+reach_inner-requires g t c = place_position c.args.version c.args.height c.args.at c.requires.place
 
 pub returns-in_err-names : goal.returns-in_err-names
 returns-in_err-names g t c = enter_err g.N.NodeStore.may_answer g.N.NodeStore.may_refuse g.N.NodeStore.top_record g.N.NodeStore.fault_count g.H.Hasher16.kept g.H.Hasher16.clashes g.H.Hasher16.fulls (form_of c.args.version) c.args.height (c.args.height - 1) c.args.at c.args.named c.args.entry.now (c.args.nodes.now, c.args.hasher.now) (c.reach_inner.new.nodes, c.reach_inner.new.hasher) c.from_residual.result c.in_err-names.field-0.0 _ (omega (arith, c.if-height-eq0.false))
@@ -23,7 +23,7 @@ pub nibble-digit-requires : goal.nibble-digit-requires
 nibble-digit-requires g t c = let low = level_below c.args.version c.args.height c.args.at c.requires.place (omega (arith, c.if-height-eq0.false)) in omega (arith, low, levels_few c.args.version)
 
 pub child-place-requires-clause-position : goal.child-place-requires-clause-position
-child-place-requires-clause-position g t c = position_deepest c.args.version c.args.at (position_of c.args.version c.args.height c.args.at c.requires.place)
+child-place-requires-clause-position g t c = position_deepest c.args.version c.args.at (place_position c.args.version c.args.height c.args.at c.requires.place)
 
 pub child-place-requires-clause-above : goal.child-place-requires-clause-above
 child-place-requires-clause-above g t c = let low = level_below c.args.version c.args.height c.args.at c.requires.place (omega (arith, c.if-height-eq0.false)) in omega (arith, low, levels_few c.args.version)
@@ -47,7 +47,7 @@ returns-in_err-below g t c = enter_below_err g.N.NodeStore.may_answer g.N.NodeSt
     c.from_residual-in_err-below.ensures.0 c.from_residual-in_err-below.ensures.1 (λ d h. h)
 
 pub store_inner-requires-clause-position : goal.store_inner-requires-clause-position
-store_inner-requires-clause-position g t c = position_of c.args.version c.args.height c.args.at c.requires.place
+store_inner-requires-clause-position g t c = place_position c.args.version c.args.height c.args.at c.requires.place
 
 pub returns : goal.returns
 returns g t c = enter_ok g.N.NodeStore.may_answer g.N.NodeStore.may_refuse g.N.NodeStore.top_record g.N.NodeStore.fault_count g.H.Hasher16.kept g.H.Hasher16.clashes g.H.Hasher16.fulls (form_of c.args.version) c.args.height (c.args.height - 1) c.nibble-digit.result c.args.at c.args.named c.name_of-named.result c.in_ok-below.below c.args.entry.now (c.args.nodes.now, c.args.hasher.now) (c.reach_inner.new.nodes, c.reach_inner.new.hasher) (c.enter.new.nodes, c.enter.new.hasher) (c.store_inner.new.nodes, c.store_inner.new.hasher) c.in_ok-names.names c.store_inner.result (omega (arith, c.if-height-eq0.false)) (c.nibble-digit.ensures ∙ ap (λ (d : List ℕ). nibble d c.args.at.level) c.requires.path ∙ sym (digit_is c.args.version c.args.entry.now.key c.args.at.level))

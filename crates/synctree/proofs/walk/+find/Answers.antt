@@ -2,18 +2,18 @@ use Rattle.std.proofs.Common.{◌<◌, ◌∙◌, ◌-◌, ap, sym, subst, arith
 use Rattle.tree_maps.specs.TreeNode.{Position}
 use Rattle.tree_maps.proofs.TreeNode.{levels_few, position_deepest}
 use Rattle.tree_maps.specs.Sixteen.{form_of, nibble}
-use Rattle.tree_maps.proofs.Formats.{nibble_below}
+use Rattle.tree_maps.proofs.Formats.{nibble_below, place_position}
 use Rattle.synctree.specs.Walks.{find}
 use Rattle.synctree.proofs.Exits.{DidOutside}
-use Rattle.synctree.proofs.Places.{position_of, level_below, digit_is, place_below}
+use Rattle.synctree.proofs.Places.{level_below, digit_is, place_below}
 use Rattle.synctree.proofs.Finding.{find_err, find_none, find_down}
 use Rattle.synctree.proofs.walk.+find.Goals as goal
 
 pub find_in_segment-requires : goal.find_in_segment-requires
-find_in_segment-requires g t c = position_of c.args.version c.args.height c.args.at c.requires.place
+find_in_segment-requires g t c = place_position c.args.version c.args.height c.args.at c.requires.place
 
 pub child_name-requires-clause-position : goal.child_name-requires-clause-position
-child_name-requires-clause-position g t c = position_of c.args.version c.args.height c.args.at c.requires.place
+child_name-requires-clause-position g t c = place_position c.args.version c.args.height c.args.at c.requires.place
 
 pub child_name-requires-clause-digit : goal.child_name-requires-clause-digit
 child_name-requires-clause-digit g t c = subst (λ (n : ℕ). n < 16) (sym c.nibble-digit.ensures) (nibble_below c.args.path.now c.args.at.level)
@@ -26,7 +26,7 @@ pub nibble-digit-requires : goal.nibble-digit-requires
 nibble-digit-requires g t c = let low = level_below c.args.version c.args.height c.args.at c.requires.place (omega (arith, c.if-height-eq0.false)) in omega (arith, low, levels_few c.args.version)
 
 pub child-at-requires-clause-position : goal.child-at-requires-clause-position
-child-at-requires-clause-position g t c = position_deepest c.args.version c.args.at (position_of c.args.version c.args.height c.args.at c.requires.place)
+child-at-requires-clause-position g t c = position_deepest c.args.version c.args.at (place_position c.args.version c.args.height c.args.at c.requires.place)
 
 pub child-at-requires-clause-above : goal.child-at-requires-clause-above
 child-at-requires-clause-above g t c = let low = level_below c.args.version c.args.height c.args.at c.requires.place (omega (arith, c.if-height-eq0.false)) in omega (arith, low, levels_few c.args.version)

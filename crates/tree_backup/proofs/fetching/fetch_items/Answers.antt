@@ -1,11 +1,11 @@
 use Rattle.std.proofs.Common.{arith}
 use Rattle.tree_backup.specs.Stores.{DidFetch}
-use Rattle.tree_backup.proofs.Calls.{fetch_next, fetch_err, fetch_cut, fetch_done, fetch_at_once}
+use Rattle.tree_backup.proofs.Calls.{fetch_next, fetch_err, fetch_cut, fetch_done, fetch_memory}
 use Rattle.tree_backup.proofs.Strings.{passed_on}
 use Rattle.tree_backup.proofs.fetching.fetch_items.Goals as goal
 
 pub returns-in_err-items-clause-did : goal.returns-in_err-items-clause-did
-returns-in_err-items-clause-did g c = passed_on c.from_residual.result _ _ (λ r. DidFetch g.B.Backend.may_answer g.B.Backend.may_refuse c.args.entries.now c.args.backend.now r c.args.backend.now) c.from_residual.ensures.0 c.from_residual.ensures.1 (λ d h. h) (fetch_at_once g.B.Backend.may_answer g.B.Backend.may_refuse c.args.entries.now c.args.backend.now)
+returns-in_err-items-clause-did g c = passed_on c.from_residual.result _ _ (λ r. DidFetch g.B.Backend.may_answer g.B.Backend.may_refuse c.args.entries.now c.args.backend.now r c.args.backend.now) c.from_residual.ensures.0 c.from_residual.ensures.1 (λ d h. h) (fetch_memory g.B.Backend.may_answer g.B.Backend.may_refuse c.args.entries.now c.args.backend.now)
 
 pub returns-in_err-object-clause-did : goal.returns-in_err-object-clause-did
 returns-in_err-object-clause-did g c = passed_on c.from_residual-in_err-object.result c.in_err-object.field-0.0 _ (λ r. DidFetch g.B.Backend.may_answer g.B.Backend.may_refuse c.args.entries.now c.args.backend.now r c.fetch.new.backend) c.from_residual-in_err-object.ensures.0 c.from_residual-in_err-object.ensures.1 (λ d h. h)

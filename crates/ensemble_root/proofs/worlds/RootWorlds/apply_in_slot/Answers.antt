@@ -2,9 +2,10 @@ use Rattle.std.proofs.Common.{refl, sym, subst, ℕ}
 use Rattle.root_script.specs.declared.slots.Ensemble.TheVariants.{Slot}
 use Rattle.schedule_text.specs.Spelling.{MayStand}
 use Rattle.ensemble_root.specs.Ends.{PassesWith}
-use Rattle.ensemble_root.proofs.Moves.{is_there, shut_refuses, slot_size}
+use Rattle.ensemble_root.proofs.Moves.{shut_refuses, slot_size}
 use Rattle.ensemble_root.proofs.Steps.{goes_err, slot_goes, slot_refused}
 use Rattle.ensemble_root.proofs.worlds.RootWorlds.apply_in_slot.Goals as goal
+use Rattle.ens_base.proofs.Tests.{some_of}
 
 pub apply_in-requires-after_bounds : goal.apply_in-requires-after_bounds
 apply_in-requires-after_bounds g c κs within =
@@ -21,7 +22,7 @@ pub returns-in_ok-apply_in-in-Some : goal.returns-in_ok-apply_in-in-Some
 returns-in_ok-apply_in-in-Some g c = record {
   goes = λ r h.
       slot_goes c.args.script.now c.args.number c.args.slot c.args.event.now r c.args.self.now _ h c.in-Some.world.now (sym c.in-Some.ensures.value) c.apply_in.new.world _ _ c.in_ok-apply_in-in-Some.ensures.reaches
-      ((c.get_mut.follows.holds c.apply_in.new.world).3 (is_there _ c.in-Some.world.now c.in-Some.ensures.value)).0 refl refl c.in_ok-apply_in-in-Some.ensures.text;
+      ((c.get_mut.follows.holds c.apply_in.new.world).3 (some_of _ c.in-Some.world.now c.in-Some.ensures.value)).0 refl refl c.in_ok-apply_in-in-Some.ensures.text;
 }
 
 pub returns-in-None : goal.returns-in-None

@@ -1,8 +1,9 @@
 use Rattle.std.proofs.Common.{◌∷◌, ◌++◌, [], ℕ, List, Option, None, Some, ap, subst, ◌∙◌}
 use Rattle.std.specs.BTreeMap.{BTreeMap, UpdatesBy}
 use Rattle.ens_base.specs.Lists.{same_bytes, bytes_cmp}
+use Rattle.ens_base.proofs.Tests.{either_way, on_err}
 use Rattle.frame_index.specs.Indexes.{queue_at}
-use Rattle.frame_index.proofs.Lookups.{changed, written, either_way, on_err}
+use Rattle.frame_index.proofs.Lookups.{changed, written}
 use Rattle.frame_index.proofs.index.FrameIndex.push.Goals as goal
 
 pub returns-in_err-push-clause-err : goal.returns-in_err-push-clause-err

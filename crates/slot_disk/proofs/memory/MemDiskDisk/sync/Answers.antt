@@ -1,8 +1,9 @@
 use Rattle.std.proofs.Common.{◌≡◌, Some, rules, refl}
 use Rattle.slot_disk.specs.Outcomes.{seen_is_left}
 use Rattle.slot_disk.specs.Steps.{deeds, Synced}
-use Rattle.slot_disk.proofs.Moments.{elapses, any_err, sync_leaves}
+use Rattle.slot_disk.proofs.Moments.{elapses, sync_leaves}
 use Rattle.slot_disk.proofs.memory.MemDiskDisk.sync.Goals as goal
+use Rattle.ens_base.proofs.Tests.{on_err}
 
 pub returns-clause-time : goal.returns-clause-time
 returns-clause-time c =
@@ -26,4 +27,4 @@ pub returns-clause-failed : goal.returns-clause-failed
 returns-clause-failed c =
     let disk = c.args.self.now in
     let is : Some c.answer.new.self.file.items ≡ Some disk.file.items = search rules in
-    any_err c.answer.result _ (disk.file.items, is, seen_is_left disk.first.items disk.file.items disk.file.items (deeds disk.log.items disk.steps.items) disk.stands refl)
+    on_err c.answer.result _ (disk.file.items, is, seen_is_left disk.first.items disk.file.items disk.file.items (deeds disk.log.items disk.steps.items) disk.stands refl)
