@@ -18,7 +18,8 @@ use Rattle.schedule_text.specs.declared.schedule.Schedule.{Schedule}
 use Rattle.turn_spec.proofs.Following.{grew_more}
 use Rattle.turn_spec.specs.Going.{Grew}
 use Rattle.wire_frames.specs.declared.frame.Frame.{Frame}
-use Rattle.world_model.specs.Worlds.{MayRefuse, run_of}
+use Rattle.world_model.specs.Turns.{StopsAmong, turn, turns_of}
+use Rattle.world_model.specs.Worlds.{run_of}
 use Rattle.world_model.specs.declared.error.WorldError.{WorldError}
 use Rattle.world_model.specs.declared.world.World.{World}
 use Rattle.world_model.specs.WorldSpec.{applied, run_of_schedule, IsWithinMessages, Run, unhashed}
@@ -108,7 +109,7 @@ module _ {L : Type 0} (sent : L → Option (List (ℕ × List ℕ))) (given : L 
         recorded_few = omega (arith, subst (λ (es : List ScheduleEvent). length es + 3 < 200000) events_are few, length-append r.events (event ∷ []))
 
         -- the world refused the event
-        pub stops_world : (now : Account) (e : WorldError) → MayRefuse mid (applied event (run_of c.world)) now e → StopsAt sent given faults w first a looks next (OfWorld e) link now
+        pub stops_world : (now : Account) (e : WorldError) → StopsAmong (turns_of event) (turn event) (run_of c.world) mid now e → StopsAt sent given faults w first a looks next (OfWorld e) link now
         stops_world now e refused = record {
           stops = stops due (length r.events) first (run_of c.world) mid event (at_front r.events event) doing now e refused;
           stand = recorded_all;

@@ -20,7 +20,8 @@ use Rattle.schedule_text.specs.declared.schedule.Schedule.{Schedule}
 use Rattle.wire_frames.specs.declared.frame.Frame.{Frame}
 use Rattle.world_model.specs.Peers.{node_of}
 use Rattle.world_model.specs.Refusals.{IsCutOff}
-use Rattle.world_model.specs.Worlds.{MayRefuse, run_of}
+use Rattle.world_model.specs.Turns.{StopsAmong, turn, turns_of}
+use Rattle.world_model.specs.Worlds.{run_of}
 use Rattle.world_model.specs.declared.error.WorldError.{WorldError}
 use Rattle.world_model.specs.declared.world.World.{World}
 use Rattle.world_model.proofs.WorldSpec.{applied_same, peers_in, run_to_last}
@@ -136,7 +137,7 @@ pub applied_schedule : (s : Schedule) (events : List ScheduleEvent) (event : Sch
 applied_schedule s events event is = ap (with_events s) is
 
 -- an error of the world was passed on
-pub applies_err : (event : ScheduleEvent) (c d : Recorder) (first now : Account) (r : Result (Unit {0}) Stop) (G : Stop → Type 0) (e : WorldError) → IsErrAnd r G → ((s : Stop) → G s → s ≡ OfWorld e) → MayRefuse first (applied event (run_of c.world)) now e → Applies event c first r d now
+pub applies_err : (event : ScheduleEvent) (c d : Recorder) (first now : Account) (r : Result (Unit {0}) Stop) (G : Stop → Type 0) (e : WorldError) → IsErrAnd r G → ((s : Stop) → G s → s ≡ OfWorld e) → StopsAmong (turns_of event) (turn event) (run_of c.world) first now e → Applies event c first r d now
 applies_err event c d first now (Ok x) G e and same refused = absurd and
 applies_err event c d first now (Err s) G e and same refused = subst (λ (x : Stop). Applies event c first (Err x) d now) (sym (same s and)) refused
 

@@ -13,7 +13,8 @@ use Rattle.network.specs.Mail.{IsMail, Mail}
 use Rattle.replay.specs.Stops.{StopsIn}
 use Rattle.replay.specs.Worlds.{schedule_run}
 use Rattle.schedule_text.specs.declared.event.ScheduleEvent.{ScheduleEvent}
-use Rattle.world_model.specs.Worlds.{MayRefuse, run_of}
+use Rattle.world_model.specs.Turns.{StopsAmong, turn, turns_of}
+use Rattle.world_model.specs.Worlds.{run_of}
 use Rattle.world_model.specs.declared.error.WorldError.{WorldError}
 use Rattle.world_model.specs.WorldSpec.{applied, IsWithinMessages, unhashed}
 use Rattle.cluster.specs.Ends.{CameThere, Handed, IsPastLines, Looked, Went, frames_before, frames_between, opening, recorded_schedule}
@@ -44,10 +45,10 @@ pub record Applied (event : ScheduleEvent) (c d : Recorder) (first now : Account
   pub schedule : d.schedule ≡ record c.schedule { events = c.schedule.events ++ event ∷ [] }
   pub index : d.index ≡ c.index
 
--- it was, or the world refused it
+-- it was, or an error of the world stopped it in one of its turns
 abbrev pub Applies : ScheduleEvent → Recorder → Account → Result (Unit {0}) Stop → Recorder → Account → Type 0
 Applies event c first (Ok x) d now = Applied event c d first now
-Applies event c first (Err (World e)) d now = MayRefuse first (applied event (run_of c.world)) now e
+Applies event c first (Err (World e)) d now = StopsAmong (turns_of event) (turn event) (run_of c.world) first now e
 Applies event c first (Err stop) d now = ⊥
 
 -- the peers have just started, and nothing is recorded yet

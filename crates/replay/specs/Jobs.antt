@@ -74,7 +74,7 @@ abbrev pub IsReplay : Account → Account → List ℕ → List ℕ → Type 0
 IsReplay first now bytes text = (s : Schedule) × (schedule_of bytes ≡ Ok s) × IsSchedule s × (first_unsound s ≡ None) × IsRunText s text × HasAdmitted (hashed_by s) first now × IsLegalRun s
 
 -- the bytes are a sound schedule, and the hasher rejected the next string of its run, which clashes
--- with one that it keeps, while the lines before stay within the limit on messages
+-- with one that it keeps, while the run stays within the limit on messages before the turn of that string
 abbrev pub IsClashing : Account → Account → List ℕ → List ℕ → List ℕ → Type 0
 IsClashing first now kept new bytes = (s : Schedule) × (schedule_of bytes ≡ Ok s) × (first_unsound s ≡ None) × HasClashed (hashed_by s) first kept new now × RejectsIn s first (λ strings mid. HasClashed strings mid kept new now)
 
@@ -86,8 +86,8 @@ clash_line kept new = codes "clash " ++ bytes_word kept ++ codes " " ++ bytes_wo
 abbrev pub IsClashText : Account → Account → Option (List ℕ) → List ℕ → Type 0
 IsClashText first now source text = (kept : List ℕ) × (new : List ℕ) × IsClash kept new × Rose first.clashes now.clashes × (text ≡ clash_line kept new) × IfSome source (IsClashing first now kept new)
 
--- the bytes are a sound schedule, and its run exceeds the limit on messages, with a line before which the
--- hasher took every string
+-- the bytes are a sound schedule, and its run exceeds the limit on messages, with a turn of which the hasher
+-- took every string, as of those before
 abbrev pub IsPastLimit : Account → List ℕ → Type 0
 IsPastLimit first bytes = (s : Schedule) × (schedule_of bytes ≡ Ok s) × (first_unsound s ≡ None) × IsPastMessages (schedule_run s) × PassesLimit s first
 
@@ -96,8 +96,8 @@ abbrev pub IsMessageLimit : Account → Option (List ℕ) → List ℕ → Type 
 IsMessageLimit first source text = IfSome source (IsPastLimit first) × (text ≡ codes "limit messages 500000" ++ 10 ∷ [])
 
 -- the bytes are a sound schedule, and the next string of its run did not fit into the book of the
--- hasher, so that the strings of the run exceed this book, while the lines before stay within the limit
--- on messages
+-- hasher, so that the strings of the run exceed this book, while the run stays within the limit on messages
+-- before the turn of that string
 abbrev pub IsFilling : Account → Account → List ℕ → Type 0
 IsFilling first now bytes = (s : Schedule) × (schedule_of bytes ≡ Ok s) × (first_unsound s ≡ None) × HasFilled (hashed_by s) first now × Exceed (hashed_by s) first × RejectsIn s first (λ strings mid. HasFilled strings mid now)
 

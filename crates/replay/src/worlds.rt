@@ -43,9 +43,9 @@ pub fn run_text(alloc: Global, world: &World) -> Result<String, AllocError>
     write_text(alloc, world.printed(), &histories)
 }
 
-/// Opens a world and applies the lines of a schedule, one after another. On failure says in which line:
-/// at the limit on messages the hasher took every string of the lines before it, and if the hasher
-/// rejected a string, these lines stay within the limit on messages.
+/// Opens a world and applies the lines of a schedule, one after another. On failure says in which turn of
+/// which line: at the limit on messages the hasher took every string of the run and of this turn, and if
+/// the hasher rejected a string of this turn, the run before it stays within the limit on messages.
 fn run_lines<H: Hasher16, R: Threads + Sync>(
     rt: &R,
     alloc: Global,

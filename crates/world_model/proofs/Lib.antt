@@ -3,6 +3,7 @@ pub mod Takes
 pub mod OneByOne
 pub mod Begins
 pub mod Reached
+pub mod Turning
 pub mod Placed
 pub mod Loops
 pub mod Starting

@@ -1,5 +1,5 @@
 -- Ticks and deliveries, one after another.
-use Rattle.std.proofs.Common.{◌≡◌, ◌<◌, ◌≤◌, ◌+◌, ◌-◌, ℕ, Some, None, List, [], ◌++◌, refl, ap, subst, ◌∙◌, sym, arith}
+use Rattle.std.proofs.Common.{◌≡◌, ◌<◌, ◌≤◌, ◌+◌, ◌-◌, ℕ, Option, Some, None, List, [], ◌++◌, refl, ap, subst, ◌∙◌, sym, arith}
 use Rattle.std.specs.Prelude.{Bool, true, false, nat_lt, slice_get}
 use Rattle.network.specs.Mail.{settled, is_among, oldest, most_messages}
 use Rattle.peer_state.specs.declared.event.Event.TheVariants as events
@@ -10,10 +10,12 @@ use Rattle.world_spec.specs.HeldStores.{Account, HasHashed}
 use Rattle.world_spec.proofs.Fronts.{in_front_none, onward, ticked_front, calmed_front}
 use Rattle.world_spec.proofs.Growth.{IsFurther, further_front, ticked_grows, calmed_grows}
 use Rattle.world_spec.proofs.Turns.{no_tick, one_tick, no_turn, one_turn, last_turn}
-use Rattle.world_spec.specs.Runs.{Run, in_front, unhashed, stepped, ticked, without_waiting, delivered, calmed}
+use Rattle.world_spec.specs.Runs.{Run, in_front, unhashed, stepped, ticked, without_waiting, delivered, delivered_if, calmed}
+use Rattle.world_model.specs.Turns.{after_oldest, after_tick, after_turns}
 use Rattle.world_model.specs.Worlds.{run_of, Begins}
 use Rattle.world_model.specs.declared.world.World.{World}
 use Rattle.world_model.proofs.Begins.{begins_same, begins_later}
+use Rattle.world_model.proofs.Turning.{no_turns, oldest_alike, tick_alike, turns_next}
 
 pub minus_zero : (n : ℕ) → n - 0 ≡ n
 minus_zero n = omega arith
@@ -23,6 +25,7 @@ minus_zero n = omega arith
 pub record Ticking (peer ticks i : ℕ) (first now : World) (before after : Account) : Type 0 where
   pub strings : List (List ℕ)
   pub rest : in_front strings (ticked peer (ticks - i) (run_of now)) ≡ ticked peer ticks (run_of first)
+  pub so_far : in_front strings (run_of now) ≡ after_turns i (after_tick peer) (run_of first)
   pub has : HasHashed strings before after
   pub begins : Begins first now
 
@@ -30,6 +33,7 @@ pub ticking_first : (peer ticks : ℕ) (w : World) (before : Account) → Tickin
 ticking_first peer ticks w before = record {
   strings = [];
   rest = in_front_none (ticked peer (ticks - 0) (run_of w)) ∙ ap (λ k. ticked peer k (run_of w)) (minus_zero ticks);
+  so_far = in_front_none (run_of w) ∙ sym (no_turns (after_tick peer) (run_of w));
   has = hashed_none before;
   begins = begins_same w;
 }
@@ -46,6 +50,7 @@ module _ (peer ticks i : ℕ) (first now : World) (before after : Account) (belo
   ticking_next next later did has begins = record {
     strings = old.strings ++ next_tick.hashed;
     rest = onward (λ w. ticked peer (ticks - (i + 1)) w) (ticked_front peer (ticks - (i + 1))) old.strings next_tick (run_of next) (ticked peer ticks (run_of first)) ticks_left did;
+    so_far = turns_next i (after_tick peer) (tick_alike peer) (run_of first) (run_of now) (run_of next) old.strings old.so_far did;
     has = hashed_all old.strings next_tick.hashed before after later old.has has;
     begins = begins_later first now next old.begins begins;
   }
@@ -66,6 +71,7 @@ ticking_last peer ticks i first now before after le old = ap (in_front old.strin
 pub record Calming (peers : List Bool) (i : ℕ) (first now : World) (before after : Account) : Type 0 where
   pub strings : List (List ℕ)
   pub rest : in_front strings (calmed peers (most_messages - i) (run_of now)) ≡ calmed peers most_messages (run_of first)
+  pub so_far : in_front strings (run_of now) ≡ after_turns i (after_oldest peers) (run_of first)
   pub has : HasHashed strings before after
   pub begins : Begins first now
 
@@ -73,6 +79,7 @@ pub calming_first : (peers : List Bool) (w : World) (before : Account) → Calmi
 calming_first peers w before = record {
   strings = [];
   rest = in_front_none (calmed peers (most_messages - 0) (run_of w)) ∙ ap (λ k. calmed peers k (run_of w)) (minus_zero most_messages);
+  so_far = in_front_none (run_of w) ∙ sym (no_turns (after_oldest peers) (run_of w));
   has = hashed_none before;
   begins = begins_same w;
 }
@@ -83,6 +90,9 @@ module _ (peers : List Bool) (i : ℕ) (first now : World) (before after : Accou
     abbrev next_turn : Run
     next_turn = delivered k (run_of now)
 
+    pub turn_is : next_turn ≡ after_oldest peers (run_of now)
+    turn_is = ap (λ (o : Option ℕ). delivered_if o (run_of now)) is
+
     turns_left : in_front old.strings (calmed peers (most_messages - (i + 1)) next_turn) ≡ calmed peers most_messages (run_of first)
     turns_left = ap (in_front old.strings) (sym (one_turn peers most_messages i (run_of now) k below is)) ∙ old.rest
 
@@ -90,6 +100,9 @@ module _ (peers : List Bool) (i : ℕ) (first now : World) (before after : Accou
     calming_next next later did has begins = record {
       strings = old.strings ++ next_turn.hashed;
       rest = onward (λ w. calmed peers (most_messages - (i + 1)) w) (calmed_front peers (most_messages - (i + 1))) old.strings next_turn (run_of next) (calmed peers most_messages (run_of first)) turns_left did;
+      so_far =
+          subst (λ (v : Run). in_front (old.strings ++ v.hashed) (run_of next) ≡ after_turns (i + 1) (after_oldest peers) (run_of first)) (sym turn_is)
+          (turns_next i (after_oldest peers) (oldest_alike peers) (run_of first) (run_of now) (run_of next) old.strings old.so_far (did ∙ ap unhashed turn_is));
       has = hashed_all old.strings next_turn.hashed before after later old.has has;
       begins = begins_later first now next old.begins begins;
     }

@@ -6,7 +6,7 @@ use Rattle.schedule_text.specs.declared.event.ScheduleEvent.TheVariants.{Call, T
 use Rattle.schedule_text.specs.declared.keyword.StoreName.{StoreName}
 use Rattle.schedule_text.specs.declared.keyword.Survivor.{Survivor}
 use Rattle.world_spec.specs.Lines.{effect, stores_effect}
-use Rattle.world_spec.proofs.Growth.{changed_hashed}
+use Rattle.world_spec.proofs.Growth.{changed_hashed, changed_mail}
 use Rattle.world_spec.specs.Nodes.{over_stores, while_down}
 use Rattle.world_spec.specs.Runs.{Run}
 use Rattle.world_spec.specs.Stores.{failing, leaves_of, spoiled, inner_spoiled, taken_back}
@@ -49,6 +49,14 @@ stores_hashed (Inner peer level index bytes) w = changed_hashed peer (over_store
 stores_hashed (Revert peer changes) w = changed_hashed peer (while_down (taken_back changes)) w
 stores_hashed (Fail peer store survivor) w = changed_hashed peer (over_stores (failing store (leaves_of survivor))) w
 stores_hashed other w = refl
+
+-- they send no message
+pub stores_mail : (event : ScheduleEvent) (w : Run) → (stores_effect event w).mail ≡ w.mail
+stores_mail (Spoil peer key bytes) w = changed_mail peer (over_stores (spoiled key bytes)) w
+stores_mail (Inner peer level index bytes) w = changed_mail peer (over_stores (inner_spoiled level index bytes)) w
+stores_mail (Revert peer changes) w = changed_mail peer (while_down (taken_back changes)) w
+stores_mail (Fail peer store survivor) w = changed_mail peer (over_stores (failing store (leaves_of survivor))) w
+stores_mail other w = refl
 
 -- a line that is none of these leaves all stores alone
 pub other_line : (event : ScheduleEvent) (w : Run)

@@ -1,5 +1,5 @@
--- What a peer is doing.
-use Rattle.std.specs.Prelude.{ℕ, slice_get}
+-- What a peer is doing, and whether a message still reaches one.
+use Rattle.std.specs.Prelude.{ℕ, Bool, nat_lt, slice_get}
 use Rattle.std.specs.Option.{option_map_or}
 use Rattle.election.specs.declared.election.Election.TheVariants as elections
 use Rattle.peer_state.specs.declared.state.Phase.{Phase}
@@ -30,3 +30,7 @@ activity_by node = activity_of (node_by node)
 -- the peer of this number in a run; a peer that there is not is down
 abbrev pub activity_at : ℕ → Run → Activity
 activity_at peer w = option_map_or activity_of (slice_get w.nodes (place_of peer)) Activity.Down
+
+-- whether the message of this number was sent before trees got version two; its delivery gives it to nobody
+abbrev pub is_stale : ℕ → Run → Bool
+is_stale n w = nat_lt n w.first_alive

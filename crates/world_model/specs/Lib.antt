@@ -2,6 +2,7 @@ pub mod MemNodes
 pub mod Peers
 pub mod Worlds
 pub mod Refusals
+pub mod Turns
 pub mod Activities
 pub mod HeldStores
 pub mod WorldSpec

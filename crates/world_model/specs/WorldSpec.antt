@@ -1,4 +1,4 @@
 -- What the crates above name of world_spec, passed on.
-pub use Rattle.world_spec.specs.Lines.{applied, run_from, run_of_schedule}
+pub use Rattle.world_spec.specs.Lines.{applied, effect, run_from, run_of_schedule}
 pub use Rattle.world_spec.specs.Messages.{IsPastMessages, IsWithinMessages}
 pub use Rattle.world_spec.specs.Runs.{Run, in_front, opening_run, posted_all, unhashed}

@@ -1,4 +1,4 @@
-ghost use Rattle.std.specs.Prelude.{◌≡◌, length};
+ghost use Rattle.std.specs.Prelude.{◌≡◌, IfErr, length};
 ghost use Rattle.ens_base.specs.Lists.{is_in};
 ghost use Rattle.ens_base.specs.View.{IsPeer};
 ghost use Rattle.world_spec.specs.HeldStores.{account};
@@ -6,6 +6,7 @@ ghost use Rattle.peer_state.specs.declared.event.Event.TheVariants.{Call};
 ghost use Rattle.schedule_text.specs.Spelling.{MayStand};
 ghost use Rattle.world_spec.specs.Lines.{applied, call_of, counted, effect, everyone, set_of, stores_effect};
 ghost use Rattle.world_spec.specs.Runs.{stepped};
+ghost use Rattle.world_model.specs.Turns.{StopsAmong, StopsTurn, turn, turns_of};
 ghost use Rattle.world_model.specs.Worlds.{run_of, Adds, Begins, Reaches};
 
 use crate::error::WorldError;
@@ -65,6 +66,7 @@ impl World {
     ) -> Result<(), WorldError>
         requires { IsPeer peer }
         ensures reaches { Reaches (account H.kept H.clashes H.fulls hasher.old) (stepped peer (Call (call_of id key.now command.now)) (run_of self.old)) result (run_of self.new) (account H.kept H.clashes H.fulls hasher.new) }
+        ensures stops { IfErr result (StopsTurn (account H.kept H.clashes H.fulls hasher.old) (stepped peer (Call (call_of id key.now command.now)) (run_of self.old)) (account H.kept H.clashes H.fulls hasher.new)) }
         ensures begins { Begins self.old self.new }
     {
         let call = CallIn {
@@ -86,6 +88,7 @@ impl World {
     ) -> Result<(), WorldError>
         requires { MayStand (length self.old.peers.items) event.now }
         ensures reaches { Reaches (account H.kept H.clashes H.fulls hasher.old) (effect event.now (run_of self.old)) result (run_of self.new) (account H.kept H.clashes H.fulls hasher.new) }
+        ensures stops { IfErr result (StopsAmong (turns_of event.now) (turn event.now) (run_of self.old) (account H.kept H.clashes H.fulls hasher.old) (account H.kept H.clashes H.fulls hasher.new)) }
         ensures begins { Begins self.old self.new }
     {
         match event {
@@ -185,9 +188,11 @@ impl World {
     ///
     /// `MessageLimit` exactly if the line would send message 500,001, unless the call is cut off
     /// first: `Memory` when out of memory, `Clash` or `BookFull` if the hasher rejected one of the
-    /// strings of the line and counted that in this call, after it took those before. Whatever was
-    /// sent and printed before the call stays, and may be followed by a part of what the line sends
-    /// and prints.
+    /// strings of the line and counted that in this call, after it took those before. Of a rejected
+    /// string and message 500,001 the one is reported that comes first: a line is taken turn by turn,
+    /// each tick and each delivery of a calm being one, and in a turn all strings are hashed before
+    /// its messages are sent. Whatever was sent and printed before the call stays, and may be followed
+    /// by a part of what the line sends and prints.
     pub fn apply<H: Hasher16, R: Threads + Sync>(
         &mut self,
         rt: &R,
@@ -197,6 +202,7 @@ impl World {
     ) -> Result<(), WorldError>
         requires line { MayStand (length self.old.peers.items) event.now }
         ensures reaches { Reaches (account H.kept H.clashes H.fulls hasher.old) (applied event.now (run_of self.old)) result (run_of self.new) (account H.kept H.clashes H.fulls hasher.new) }
+        ensures stops { IfErr result (StopsAmong (turns_of event.now) (turn event.now) (run_of self.old) (account H.kept H.clashes H.fulls hasher.old) (account H.kept H.clashes H.fulls hasher.new)) }
         ensures begins { Begins self.old self.new }
     {
         self.effect(rt, alloc, hasher, event)?;

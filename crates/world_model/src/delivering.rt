@@ -1,7 +1,9 @@
+ghost use Rattle.std.specs.Prelude.{IfErr};
 ghost use Rattle.ens_base.specs.View.{IsPeer};
 ghost use Rattle.world_spec.specs.HeldStores.{account};
 ghost use Rattle.network.specs.Mail.{goes, oldest, most_messages};
 ghost use Rattle.world_spec.specs.Runs.{delivered, delivered_if, ticked, calmed};
+ghost use Rattle.world_model.specs.Turns.{StopsAmong, StopsTurn, after_oldest, after_tick};
 ghost use Rattle.world_model.specs.Worlds.{run_of, Begins, Reaches};
 
 use crate::error::WorldError;
@@ -25,6 +27,7 @@ impl World {
     ) -> Result<(), WorldError>
         requires { IsPeer peer }
         ensures reaches { Reaches (account H.kept H.clashes H.fulls hasher.old) (ticked peer ticks (run_of self.old)) result (run_of self.new) (account H.kept H.clashes H.fulls hasher.new) }
+        ensures stops { IfErr result (StopsAmong ticks (after_tick peer) (run_of self.old) (account H.kept H.clashes H.fulls hasher.old) (account H.kept H.clashes H.fulls hasher.new)) }
         ensures begins { Begins self.old self.new }
     {
         for _tick in 0..ticks {
@@ -49,6 +52,7 @@ impl World {
         number: usize,
     ) -> Result<(), WorldError>
         ensures reaches { Reaches (account H.kept H.clashes H.fulls hasher.old) (delivered number (run_of self.old)) result (run_of self.new) (account H.kept H.clashes H.fulls hasher.new) }
+        ensures stops { IfErr result (StopsTurn (account H.kept H.clashes H.fulls hasher.old) (delivered number (run_of self.old)) (account H.kept H.clashes H.fulls hasher.new)) }
         ensures begins { Begins self.old self.new }
     {
         let Some(frame) = self.network.sent().get(number) else {
@@ -75,6 +79,7 @@ impl World {
     ) -> Result<(), WorldError>
         requires { IsPeer sender × IsPeer receiver }
         ensures reaches { Reaches (account H.kept H.clashes H.fulls hasher.old) (delivered_if (oldest (goes sender receiver) (run_of self.old).mail) (run_of self.old)) result (run_of self.new) (account H.kept H.clashes H.fulls hasher.new) }
+        ensures stops { IfErr result (StopsTurn (account H.kept H.clashes H.fulls hasher.old) (delivered_if (oldest (goes sender receiver) (run_of self.old).mail) (run_of self.old)) (account H.kept H.clashes H.fulls hasher.new)) }
         ensures begins { Begins self.old self.new }
     {
         match self.network.oldest_between(sender, receiver) {
@@ -93,6 +98,7 @@ impl World {
         peers: &PeerSet,
     ) -> Result<(), WorldError>
         ensures reaches { Reaches (account H.kept H.clashes H.fulls hasher.old) (calmed peers.now most_messages (run_of self.old)) result (run_of self.new) (account H.kept H.clashes H.fulls hasher.new) }
+        ensures stops { IfErr result (StopsAmong most_messages (after_oldest peers.now) (run_of self.old) (account H.kept H.clashes H.fulls hasher.old) (account H.kept H.clashes H.fulls hasher.new)) }
         ensures begins { Begins self.old self.new }
     {
         for _turn in 0..Network::MOST {

@@ -18,6 +18,7 @@ mod changing;
 mod delivering;
 mod error;
 mod hashing;
+mod laws;
 mod node;
 mod opening;
 mod peer;
@@ -33,5 +34,6 @@ mod world;
 
 pub use applying::{all_peers, set_of_members};
 pub use error::WorldError;
+pub use laws::lines_are_their_turns;
 pub use watching::Activity;
 pub use world::World;

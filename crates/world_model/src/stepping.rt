@@ -1,7 +1,9 @@
+ghost use Rattle.std.specs.Prelude.{IfErr};
 ghost use Rattle.ens_base.specs.View.{IsPeer};
 ghost use Rattle.world_spec.specs.HeldStores.{account, MayCome, AllMayGo};
 ghost use Rattle.step_plans.specs.Outboxes.{out_of};
 ghost use Rattle.world_spec.specs.Runs.{stepped};
+ghost use Rattle.world_model.specs.Turns.{StopsTurn};
 ghost use Rattle.world_model.specs.Worlds.{run_of, Adds, Begins, Reaches, reported};
 
 use crate::error::WorldError;
@@ -52,6 +54,7 @@ impl World {
         requires peer { IsPeer peer }
         requires event { MayCome peer event }
         ensures reaches { Reaches (account H.kept H.clashes H.fulls hasher.old) (stepped peer event (run_of self.old)) result (run_of self.new) (account H.kept H.clashes H.fulls hasher.new) }
+        ensures stops { IfErr result (StopsTurn (account H.kept H.clashes H.fulls hasher.old) (stepped peer event (run_of self.old)) (account H.kept H.clashes H.fulls hasher.new)) }
         ensures begins { Begins self.old self.new }
     {
         let place = (peer.0 - 1) as usize;

@@ -48,7 +48,7 @@ impl World {
     ghost use Rattle.std.specs.Prelude.{slice_index_or, false};
     ghost use Rattle.ens_base.specs.View.{IsPeer};
     ghost use Rattle.network.specs.Mail.{goes, is_among, oldest};
-    ghost use Rattle.world_model.specs.Activities.{activity_at};
+    ghost use Rattle.world_model.specs.Activities.{activity_at, is_stale as is_stale_in};
     ghost use Rattle.world_model.specs.Worlds.{run_of};
 
     /// Returns what `peer` is doing. A peer that the world does not have is down.
@@ -67,6 +67,14 @@ impl World {
         ensures { result ≡ slice_index_or (run_of self.now).mail.waits number false }
     {
         self.network.waits(number)
+    }
+
+    /// Whether the message `number`, counted from 0, was sent before trees got version two. Its
+    /// delivery gives it to nobody.
+    pub fn is_stale(&self, number: usize) -> bool
+        ensures { result ≡ is_stale_in number (run_of self.now) }
+    {
+        number < self.first_alive
     }
 
     /// Returns the number, counted from 0, of the oldest message waiting from `from` to `to`.

@@ -27,7 +27,7 @@ pub returns-in_err-apply-clause-stops : goal.returns-in_err-apply-clause-stops
 returns-in_err-apply-clause-stops g c =
     let here : slice_get c.args.schedule.now.events c.loop-place.place ≡ Some c.index-events-place.result = grind (arith, common_steps, slice_get_read, c.as_slice-events.ensures) in
     stops_in c.args.schedule.now c.loop-place.place _ (run_of c.loop-place.world) _ c.index-events-place.result here c.loop-place.invariant c.from_residual-in_err-apply.result _ c.in_err-apply.field-0.0 _ c.from_residual-in_err-apply.ensures.1
-    (λ d h. h) c.in_err-apply.ensures.reaches
+    (λ d h. h) c.in_err-apply.ensures.stops
 
 pub loop-place-preserved : goal.loop-place-preserved
 loop-place-preserved g c =

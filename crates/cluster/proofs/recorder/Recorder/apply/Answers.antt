@@ -4,7 +4,7 @@ use Rattle.cluster.proofs.Stepping.{applied_schedule, applies_err}
 use Rattle.cluster.proofs.recorder.Recorder.apply.Goals as goal
 
 pub returns-in_err-apply : goal.returns-in_err-apply
-returns-in_err-apply g c = applies_err c.args.event c.args.self.now _ _ _ c.from_residual.result _ c.in_err-apply.field-0.0 c.from_residual.ensures.1 (λ d same. same) c.in_err-apply.ensures.reaches
+returns-in_err-apply g c = applies_err c.args.event c.args.self.now _ _ _ c.from_residual.result _ c.in_err-apply.field-0.0 c.from_residual.ensures.1 (λ d same. same) c.in_err-apply.ensures.stops
 
 pub returns-in_err-push : goal.returns-in_err-push
 returns-in_err-push g c = applies_err c.args.event c.args.self.now _ _ _ c.from_residual-in_err-push.result _ Memory c.from_residual-in_err-push.ensures.1 (λ d same. same) tt

@@ -1,9 +1,12 @@
-use Rattle.std.proofs.Common.{sym, ◌∙◌}
+use Rattle.std.proofs.Common.{subst, sym, ◌∙◌}
 use Rattle.network.specs.Mail.{most_messages}
-use Rattle.world_spec.specs.Runs.{delivered, calmed}
+use Rattle.world_spec.specs.HeldStores.{account}
+use Rattle.world_spec.specs.Runs.{Run, delivered, calmed}
 use Rattle.world_model.specs.Worlds.{run_of}
-use Rattle.world_model.proofs.Loops.{calming_first, calming_next, calming_longer, calming_ends, calming_last}
-use Rattle.world_model.proofs.Reached.{refused_further, led_to}
+use Rattle.world_model.proofs.Loops.{calming_first, calming_next, calming_longer, calming_ends, calming_last, turn_is}
+use Rattle.world_model.proofs.Reached.{errs, refused_further, led_to}
+use Rattle.world_model.proofs.Turning.{stops_among}
+use Rattle.world_model.specs.Turns.{StopsAmong, StopsTurn, after_oldest}
 use Rattle.world_model.proofs.world.World.calm.Goals as goal
 
 pub loop-turn-init : goal.loop-turn-init
@@ -28,3 +31,13 @@ pub returns-clause-reaches : goal.returns-clause-reaches
 returns-clause-reaches g c =
     let is = calming_last c.args.peers.now c.loop-turn._turn c.args.self.now c.loop-turn.self _ _ c.loop-turn-test.false c.loop-turn.invariant in
     led_to c.loop-turn.invariant.strings c.loop-turn.self (calmed c.args.peers.now most_messages (run_of c.args.self.now)) _ _ is c.loop-turn.self.within c.loop-turn.invariant.has
+
+pub returns-in_err-deliver-in-Some-clause-stops : goal.returns-in_err-deliver-in-Some-clause-stops
+returns-in_err-deliver-in-Some-clause-stops g c =
+    let same = turn_is c.args.peers.now c.loop-turn._turn c.args.self.now c.loop-turn.self _ _ c.loop-turn-test.true c.loop-turn.invariant c.in-Some.number (sym c.in-Some.is ∙ c.oldest_among.ensures.oldest) in
+    let first = account g.H.Hasher16.kept g.H.Hasher16.clashes g.H.Hasher16.fulls c.args.hasher.now in
+    let mid = account g.H.Hasher16.kept g.H.Hasher16.clashes g.H.Hasher16.fulls c.loop-turn.hasher in
+    let now = account g.H.Hasher16.kept g.H.Hasher16.clashes g.H.Hasher16.fulls c.deliver.new.hasher in
+    errs (StopsAmong most_messages (after_oldest c.args.peers.now) (run_of c.args.self.now) first now) c.from_residual.result _ c.in_err-deliver-in-Some.field-0.0 c.from_residual.ensures.1 (λ d h. h)
+    (stops_among most_messages c.loop-turn._turn (after_oldest c.args.peers.now) (run_of c.args.self.now) c.loop-turn.invariant.strings c.loop-turn.self first mid now c.loop-turn-test.true c.loop-turn.invariant.so_far c.loop-turn.invariant.has c.in_err-deliver-in-Some.field-0.0
+    (subst (λ (due : Run). StopsTurn mid due now c.in_err-deliver-in-Some.field-0.0) same c.in_err-deliver-in-Some.ensures.stops))

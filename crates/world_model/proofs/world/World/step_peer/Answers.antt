@@ -8,10 +8,12 @@ use Rattle.world_spec.specs.Nodes.{taken}
 use Rattle.world_spec.specs.Runs.{stepped}
 use Rattle.world_model.specs.Peers.{node_of}
 use Rattle.world_model.specs.Refusals.{IsCutOff}
+use Rattle.world_model.specs.Turns.{StopsTurn}
 use Rattle.world_model.specs.Worlds.{run_of}
 use Rattle.world_model.proofs.Begins.{begins_by}
 use Rattle.world_model.proofs.Placed.{took, took_strings, still_numbered, still_few, has_number}
-use Rattle.world_model.proofs.Reached.{refused_further, cut_off_refuses, adds_reaches}
+use Rattle.world_model.proofs.Reached.{refused_further, cut_off_refuses, adds_reaches, errs}
+use Rattle.world_model.proofs.Turning.{adds_stops, cut_off_stops}
 use Rattle.world_model.proofs.world.World.step_peer.Goals as goal
 
 pub returns-then-place-len-clause-begins : goal.returns-then-place-len-clause-begins
@@ -58,6 +60,32 @@ returns-clause-reaches g c =
     let own = has_number c.args.self.now.peers.items c.args.peer c.index_mut.result.now c.requires.peer.0 here c.args.self.now.numbered in
     let strings = took_strings c.args.self.now.peers.items (run_of c.args.self.now) c.args.peer c.index_mut.result.now c.step.new.self refl here c.args.event own in
     adds_reaches first due now c.report.result _ _ c.report.ensures.reaches
+    (rw c.peer.view_is (took c.args.self.now.peers.items (run_of c.args.self.now) c.args.peer c.index_mut.result.now c.step.new.self refl here c.args.event
+    (out_of c.in_ok-out.out) c.in_ok-out.out.notes.items (taken c.index_mut.result.now.me c.args.event (node_of c.index_mut.result.now)).hashed own c.in_ok-out.ensures.taken.is))
+    (subst (λ (h : List (List ℕ)). HasHashed h first now) (sym strings) c.in_ok-out.ensures.taken.has)
+
+pub returns-in_err-out-clause-stops : goal.returns-in_err-out-clause-stops
+returns-in_err-out-clause-stops g c =
+    let first = account g.H.Hasher16.kept g.H.Hasher16.clashes g.H.Hasher16.fulls c.args.hasher.now in
+    let now = account g.H.Hasher16.kept g.H.Hasher16.clashes g.H.Hasher16.fulls c.step.new.hasher in
+    let at : slice_get c.args.self.now.peers.items (c.peer.inside.0 - 1) ≡ Some c.index_mut.result.now = search (rules, slice_get_read) in
+    let here : slice_get c.args.self.now.peers.items (c.args.peer - 1) ≡ Some c.index_mut.result.now = rw c.peer.view_is at at in
+    let due = stepped c.args.peer c.args.event (run_of c.args.self.now) in
+    let own = has_number c.args.self.now.peers.items c.args.peer c.index_mut.result.now c.requires.peer.0 here c.args.self.now.numbered in
+    let strings = took_strings c.args.self.now.peers.items (run_of c.args.self.now) c.args.peer c.index_mut.result.now c.step.new.self refl here c.args.event own in
+    errs (StopsTurn first due now) c.from_residual.result _ c.in_err-out.field-0.0 c.from_residual.ensures.1 (λ d h. h)
+    (cut_off_stops first due now c.in_err-out.field-0.0 (subst (λ (h : List (List ℕ)). IsCutOff h first now c.in_err-out.field-0.0) (sym strings) c.in_err-out.ensures.error))
+
+pub returns-clause-stops : goal.returns-clause-stops
+returns-clause-stops g c =
+    let first = account g.H.Hasher16.kept g.H.Hasher16.clashes g.H.Hasher16.fulls c.args.hasher.now in
+    let now = account g.H.Hasher16.kept g.H.Hasher16.clashes g.H.Hasher16.fulls c.step.new.hasher in
+    let at : slice_get c.args.self.now.peers.items (c.peer.inside.0 - 1) ≡ Some c.index_mut.result.now = search (rules, slice_get_read) in
+    let here : slice_get c.args.self.now.peers.items (c.args.peer - 1) ≡ Some c.index_mut.result.now = rw c.peer.view_is at at in
+    let due = stepped c.args.peer c.args.event (run_of c.args.self.now) in
+    let own = has_number c.args.self.now.peers.items c.args.peer c.index_mut.result.now c.requires.peer.0 here c.args.self.now.numbered in
+    let strings = took_strings c.args.self.now.peers.items (run_of c.args.self.now) c.args.peer c.index_mut.result.now c.step.new.self refl here c.args.event own in
+    adds_stops first due now c.report.result _ _ c.report.ensures.reaches
     (rw c.peer.view_is (took c.args.self.now.peers.items (run_of c.args.self.now) c.args.peer c.index_mut.result.now c.step.new.self refl here c.args.event
     (out_of c.in_ok-out.out) c.in_ok-out.out.notes.items (taken c.index_mut.result.now.me c.args.event (node_of c.index_mut.result.now)).hashed own c.in_ok-out.ensures.taken.is))
     (subst (λ (h : List (List ℕ)). HasHashed h first now) (sym strings) c.in_ok-out.ensures.taken.has)
