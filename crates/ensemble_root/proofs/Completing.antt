@@ -17,6 +17,7 @@ use Rattle.ensemble_root.specs.Ends.{PassesLimit}
 use Rattle.ensemble_root.specs.Hashed.{hashed_by}
 use Rattle.ensemble_root.specs.Jobs.{HasRead, IsRunnable, Prints, PrintsWith}
 use Rattle.ensemble_root.proofs.Ends.{memory_taken}
+use Rattle.ensemble_root.proofs.Steps.{passes_limit}
 
 same_ok : {s t : RootScript} → ◌≡◌ {A = Result RootScript ScheduleError} (Ok s) (Ok t) → s ≡ t
 same_ok h = cc h
@@ -39,7 +40,7 @@ module _ (bytes : List ℕ) (run : IsRunnable bytes) where
     where
       by : PrintsWith nothing_hashed h.0 (Some bytes) Status.Limit text → RanOut Status.Limit
       by (inl lines) = absurd (no_error (sym run.read ∙ lines.0))
-      by (inr (inl m)) = absurd (run.within (subst PassesLimit (one m.0.0 m.0.1) m.0.2))
+      by (inr (inl m)) = absurd (run.within (subst PassesLimit (one m.0.0 m.0.1) (passes_limit m.0.0 nothing_hashed m.0.2)))
       by (inr (inr b)) =
           let has : HasFilled (hashed_by run.s) nothing_hashed h.0 = subst (λ (t : RootScript). HasFilled (hashed_by t) nothing_hashed h.0) (one b.1.0 b.1.1) b.1.2 in
           let over : 1073741824 < total (once (hashed_by run.s)) = filled_beyond (hashed_by run.s) 1073741824 nothing_hashed h.0 refl has in

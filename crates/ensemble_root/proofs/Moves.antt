@@ -5,7 +5,6 @@ use Rattle.std.specs.BTreeMap.{get}
 use Rattle.std.specs.List.{flat_map}
 use Rattle.std.specs.Ordering.{nat_cmp}
 use Rattle.std.proofs.lemmas.List.{length-map, length-replicate}
-use Rattle.std.proofs.lemmas.Option.{same_Some}
 use Rattle.held_stores.proofs.Taken.{hashed_none}
 use Rattle.held_stores.specs.Held.{Account, HasHashed}
 use Rattle.register_model.specs.declared.printed.Printed.{Printed}
@@ -28,8 +27,8 @@ use Rattle.world_spec.specs.Messages.{IsWithinMessages}
 use Rattle.world_spec.specs.Runs.{Run, opening_run, unhashed}
 use Rattle.ensemble_root.specs.Ends.{PassesWith, as_opening}
 use Rattle.ensemble_root.specs.Hashed.{line_hashed, opened_hashed, opened_since, own_hashed, routed_hashed}
-use Rattle.ensemble_root.specs.Standing.{Goes, RunsSlot, Stands, line_at, open_line, told_in}
-use Rattle.ensemble_root.specs.Worlds.{AreWithin, branch_run, events_in, newest, world, worlds}
+use Rattle.ensemble_root.specs.Standing.{Goes, Stands, line_at, open_line, told_in}
+use Rattle.ensemble_root.specs.Worlds.{events_in, newest, world, worlds}
 use Rattle.ensemble_root.specs.declared.worlds.RootWorlds.{RootWorlds}
 use Rattle.ensemble_root.proofs.Printing.{worlds_grow}
 use Rattle.ensemble_root.proofs.Running.{since_none}
@@ -127,16 +126,6 @@ module _ (s : RootScript) (number : ℕ) (line : RootEvent) (r : Roots) (first m
       (goes_after s next (PassesWith s r (Slot slot) (own_event line)) (routed_hashed line) _ first mid now new result has (goes_same s next (PassesWith s r (Slot slot) (own_event line)) own (own ++ opened_hashed s (opened_since r next)) mid now new result same goes))
 
 -- ## The end of the run
-
-pub stands_within : (s : RootScript) (r : Roots) (w : RootWorlds) → Stands s r w → AreWithin s r
-stands_within s r w h Root b is =
-    let root : Branch = record { opening = record { event = 0; view = s.view }; events = r.root } in
-    subst (λ (x : Branch). IsWithinMessages (branch_run s x)) (same_Some root b is) h.within
-stands_within s r w h (Slot slot) b is = by (get nat_cmp w.slots slot) (subst (λ (o : Option Branch). RunsSlot s o (get nat_cmp w.slots slot)) is (h.slots slot))
-  where
-    by : (o : Option World) → RunsSlot s (Some b) o → IsWithinMessages (branch_run s b)
-    by None k = absurd k
-    by (Some v) k = k.1
 
 pub slots_opened : (s : RootScript) → IsScript s → (w : RootWorlds) → Stands s (roots_after worlds s) w → AreOpened worlds s (map as_opening w.opened.items)
 slots_opened s script w h = subst (AreOpened worlds s) (sym h.opened) (run_opened worlds s worlds_grow script)

@@ -1,5 +1,5 @@
 -- The places of the calls of a script, and the keys of its routed calls.
-use Rattle.std.proofs.Common.{◌≡◌, ℕ, ◌+◌, ◌-◌, ◌<◌, ◌≤◌, ◌==◌, Bool, true, false, cond, if◌then◌else◌, List, [], ◌∷◌, ◌++◌, length, drop, take, slice_get, Option, None, Some, refl, sym, ap, subst, ◌∙◌, arith}
+use Rattle.std.proofs.Common.{◌≡◌, ℕ, ◌+◌, ◌-◌, ◌<◌, ◌≤◌, ◌==◌, Bool, true, false, cond, if◌then◌else◌, List, [], ◌∷◌, ◌++◌, length, drop, take, slice_get, Option, Some, refl, sym, ap, subst, ◌∙◌, arith}
 use Rattle.std.specs.BTreeMap.{is_at}
 use Rattle.std.specs.Ordering.{nat_cmp}
 use Rattle.std.specs.Prelude.{find}
@@ -8,12 +8,8 @@ use Rattle.root_script.specs.Progress.{has_id, id_of, is_id}
 use Rattle.root_script.specs.declared.event.RootEvent.{RootEvent}
 use Rattle.root_script.specs.declared.event.RootEvent.TheVariants.{At, Open, Look, Route}
 use Rattle.ensemble_root.specs.Standing.{at_place}
-use Rattle.ensemble_root.proofs.Lists.{drop_one, drop_past, take_one}
+use Rattle.ensemble_root.proofs.Lists.{drop_one, take_one}
 use Rattle.ens_base.proofs.Tests.{at_number}
-
--- no event is behind the last
-pub places_first : (events : List RootEvent) (found : Option ℕ) (place id : ℕ) → found ≡ None → length events ≤ place → at_place events found ≡ find (has_id id) (drop place events)
-places_first events found place id none le = ap (at_place events) none ∙ sym (ap (find (has_id id)) (drop_past place events le))
 
 module _ (events : List RootEvent) (place : ℕ) (x : RootEvent) (here : slice_get events place ≡ Some x) (q : ℕ) (old new : Option ℕ) (h : at_place events old ≡ find (has_id q) (drop (place + 1) events)) where
   found : find (has_id q) (drop place events) ≡ (if has_id q x then Some x else find (has_id q) (drop (place + 1) events))
@@ -33,10 +29,6 @@ module _ (events : List RootEvent) (place : ℕ) (x : RootEvent) (here : slice_g
       by false e =
           ap (at_place events) (puts ∙ ap (λ (b : Bool). cond b (Some place) old) (at_number id q ∙ e)) ∙ h
           ∙ sym (found ∙ ap (λ (b : Bool). if b then Some x else find (has_id q) (drop (place + 1) events)) (has ∙ e))
-
-  -- it is none
-  pub places_other : None ≡ id_of x → new ≡ old → at_place events new ≡ find (has_id q) (drop place events)
-  places_other none same = ap (at_place events) same ∙ h ∙ sym (found ∙ ap (λ (b : Bool). if b then Some x else find (has_id q) (drop (place + 1) events)) (ap (is_id q) (sym none)))
 
 -- one event more, from the last one on
 pub places_before : (events : List RootEvent) (last : ℕ) (x : RootEvent) → 0 < last → last ≤ length events → slice_get events (last - 1) ≡ Some x → (id : ℕ) → Some id ≡ id_of x → (q : ℕ) (old new : Option ℕ) → at_place events old ≡ find (has_id q) (drop last events)

@@ -147,10 +147,6 @@ pub shut_slot : (s : RootScript) (b : Option Branch) → RunsSlot s b None → b
 shut_slot s None h = refl
 shut_slot s (Some b) h = absurd h
 
-pub open_slot_in : (s : RootScript) (b : Option Branch) (w : World) → RunsSlot s b (Some w) → (x : Branch) × (b ≡ Some x)
-open_slot_in s None w h = absurd h
-open_slot_in s (Some b) w h = (b, refl)
-
 module _ (s : RootScript) (number slot : ℕ) (view : List ℕ) (r : Roots) (old new : RootWorlds) where
   opening : Opening
   opening = record { event = number; view = view }
@@ -192,9 +188,3 @@ module _ (s : RootScript) (number slot : ℕ) (view : List ℕ) (r : Roots) (old
       ap (λ (b : Option Branch). opened_hashed s (opened_since r (open_slot number slot view b r))) shut
       ∙ ap (opened_hashed s) (drop_front r.opened ((slot, opening) ∷ []))
       ∙ append-nil (opening_run newest s.peers view).hashed
-
-  -- it is open already
-  pub slot_kept : (w : World) → get nat_cmp old.slots slot ≡ Some w → Stands s r old → open_slot number slot view (r.slots slot) r ≡ r
-  slot_kept w there h =
-      let b = open_slot_in s (r.slots slot) w (subst (λ (x : Option World). RunsSlot s (r.slots slot) x) there (h.slots slot)) in
-      ap (λ (x : Option Branch). open_slot number slot view x r) b.1

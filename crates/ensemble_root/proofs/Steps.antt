@@ -1,6 +1,7 @@
 -- One line of a script after another.
-use Rattle.std.proofs.Common.{◌≡◌, ℕ, ◌+◌, ◌≤◌, ◌==◌, Bool, true, false, cond, if◌then◌else◌, List, [], ◌∷◌, ◌++◌, length, map, drop, take, slice_get, Option, Some, None, Result, Ok, Err, refl, sym, ap, subst, ◌∙◌, append-nil, append_assoc, length-append, arith, string_bytes}
+use Rattle.std.proofs.Common.{◌≡◌, ℕ, ◌+◌, ◌≤◌, ◌==◌, Bool, true, false, cond, if◌then◌else◌, List, [], ◌∷◌, ◌++◌, length, map, drop, take, slice_get, Option, Some, None, Result, Ok, Err, inl, inr, refl, sym, ap, subst, ◌∙◌, append-nil, append_assoc, length-append, arith, string_bytes}
 use Rattle.std.proofs.lemmas.List.{take_all, length-take-le}
+use Rattle.std.proofs.lemmas.Option.{same_Some}
 use Rattle.std.specs.Prelude.{is_some}
 use Rattle.std.specs.BTreeMap.{get, is_at}
 use Rattle.std.specs.List.{flat_map}
@@ -8,10 +9,10 @@ use Rattle.std.specs.Map.{lookup}
 use Rattle.std.specs.Ordering.{nat_cmp}
 use Rattle.std.specs.Result.{IsErrAnd}
 use Rattle.held_stores.specs.Held.{Account, HasHashed, StartsWith}
+use Rattle.held_stores.specs.Laws.{HasFilled}
 use Rattle.held_stores.proofs.Taken.{hashed_all, hashed_none}
 use Rattle.register_model.specs.declared.printed.Printed.{Printed}
 use Rattle.root_runs.specs.Lines.{ensemble_of, own_event}
-use Rattle.root_runs.specs.Openings.{Opening}
 use Rattle.root_runs.specs.Runs.{by}
 use Rattle.root_runs.specs.Steps.{Branch, Roots, at_first, in_slot, open_lines, open_slot, printed_next, put, refusal, said, step, steps}
 use Rattle.root_runs.specs.Text.{printed_line}
@@ -21,19 +22,18 @@ use Rattle.root_script.specs.declared.script.RootScript.{RootScript}
 use Rattle.root_script.specs.declared.slots.Ensemble.TheVariants.{Root, Slot}
 use Rattle.schedule_text.specs.declared.event.ScheduleEvent.{ScheduleEvent}
 use Rattle.replay.proofs.WorldModel.{cut_off_after, cut_off_further}
-use Rattle.replay.specs.WorldModel.{IsCutOff, MayRefuse, Reaches, run_of, WorldError, BookFull, Clash, Memory, MessageLimit, World}
+use Rattle.replay.specs.WorldModel.{IsCutOff, MayRefuse, run_of, WorldError, BookFull, Clash, Memory, MessageLimit, World}
 use Rattle.world_spec.specs.Lines.{applied}
 use Rattle.world_spec.specs.Messages.{IsWithinMessages}
-use Rattle.world_spec.specs.Runs.{Run, opening_run, unhashed}
-use Rattle.ensemble_root.specs.Ends.{IsStopped, PassesWith, as_opening}
-use Rattle.ensemble_root.specs.Hashed.{hashed_by, line_hashed, lines_hashed, opened_hashed, opened_since, own_hashed}
+use Rattle.world_spec.specs.Runs.{opening_run, unhashed}
+use Rattle.ensemble_root.specs.Ends.{CameTo, IsStopped, PassesIn, PassesLimit, PassesWith, RejectsIn, as_opening}
+use Rattle.ensemble_root.specs.Hashed.{hashed_by, hashed_until, line_hashed, lines_hashed, opened_hashed, opened_since, own_hashed}
 use Rattle.ensemble_root.specs.Standing.{Goes, RunsSlot, Stands, line_at, open_line}
-use Rattle.ensemble_root.specs.Worlds.{branch_run, events_in, newest, world, worlds}
+use Rattle.ensemble_root.specs.Worlds.{AreWithin, branch_run, events_in, newest, world, worlds}
 use Rattle.ensemble_root.specs.declared.worlds.RootWorlds.{RootWorlds}
-use Rattle.ensemble_root.proofs.Lists.{drop_past, parted, split_at, take_one}
-use Rattle.ensemble_root.proofs.Running.{hashed_more, line_opens, lines_both, lines_one, lines_open, said_text, since_none, slot_hashed, slot_kept, slot_stands, text_more, world_next, world_prints, world_refused}
+use Rattle.ensemble_root.proofs.Lists.{parted, split_at, take_one}
+use Rattle.ensemble_root.proofs.Running.{hashed_more, line_opens, lines_both, lines_one, lines_open, said_text, slot_hashed, slot_stands, text_more, world_next, world_prints, world_refused}
 use Rattle.ens_base.proofs.Tests.{at_number}
-use Rattle.ens_base.proofs.Lists.{take_few}
 
 -- ## Calls after one another
 
@@ -232,6 +232,16 @@ hashed_parts s n (x ∷ lines) line rest r =
     let later = hashed_parts s (n + 1) lines line rest (step worlds s n x r) in
     (later.0, ap (λ (l : List (List ℕ)). line_hashed s n x r ++ l) later.1 ∙ sym (append_assoc (line_hashed s n x r) (lines_hashed s (n + 1) (lines ++ line ∷ []) (step worlds s n x r)) later.0))
 
+pub stands_within : (s : RootScript) (r : Roots) (w : RootWorlds) → Stands s r w → AreWithin s r
+stands_within s r w h Root b is =
+    let root : Branch = record { opening = record { event = 0; view = s.view }; events = r.root } in
+    subst (λ (x : Branch). IsWithinMessages (branch_run s x)) (same_Some root b is) h.within
+stands_within s r w h (Slot slot) b is = by (get nat_cmp w.slots slot) (subst (λ (o : Option Branch). RunsSlot s o (get nat_cmp w.slots slot)) is (h.slots slot))
+  where
+    by : (o : Option World) → RunsSlot s (Some b) o → IsWithinMessages (branch_run s b)
+    by None k = absurd k
+    by (Some v) k = k.1
+
 -- the worlds have run the lines so far, and the hasher took their strings
 pub record Doing (s : RootScript) (place : ℕ) (first : Account) (w : RootWorlds) (now : Account) : Type 0 where
   pub stands : Stands s (steps worlds s 1 (take place s.events) at_first) w
@@ -268,30 +278,60 @@ module _ (s : RootScript) (place : ℕ) (first : Account) (old new : RootWorlds)
     has = subst (λ (l : List (List ℕ)). HasHashed l first now) (sym more_strings) (hashed_all (opens ++ lines_hashed s 1 before at_first) (line_hashed s (place + 1) line so_far) first mid now doing.has goes.1);
   }
 
-  -- the strings up to this line come first
-  whole : StartsWith ((opens ++ lines_hashed s 1 before at_first) ++ line_hashed s (place + 1) line so_far) (hashed_by s)
-  whole =
-      let parts = hashed_parts s 1 before line (drop (place + 1) s.events) at_first in
-      let all : lines_hashed s 1 s.events at_first ≡ lines_hashed s 1 (before ++ line ∷ drop (place + 1) s.events) at_first = ap (λ (l : List RootEvent). lines_hashed s 1 l at_first) (split_at s.events place line here) in
-      let last : lines_hashed s 1 (before ++ line ∷ []) at_first ≡ lines_hashed s 1 before at_first ++ line_hashed s (place + 1) line so_far = hashed_last s 1 before line at_first ∙ ap (λ (k : ℕ). lines_hashed s 1 before at_first ++ line_hashed s k line so_far) number in (
-        parts.0,
-        ap (λ (l : List (List ℕ)). opens ++ l) (all ∙ parts.1 ∙ ap (λ (l : List (List ℕ)). l ++ parts.0) last)
-            ∙ sym (append_assoc opens (lines_hashed s 1 before at_first ++ line_hashed s (place + 1) line so_far) parts.0)
-            ∙ ap (λ (l : List (List ℕ)). l ++ parts.0) (sym (append_assoc opens (lines_hashed s 1 before at_first) (line_hashed s (place + 1) line so_far))),
-      )
+  at_line : CameTo s before line first mid
+  at_line = record { rest = drop (place + 1) s.events; are = split_at s.events place line here; within = stands_within s so_far old doing.stands; has = doing.has }
+
+  rejects_line : (e : WorldError) → IsCutOff (line_hashed s (place + 1) line so_far) mid now e → RejectsIn s first (λ strings m. IsCutOff strings m now e)
+  rejects_line e cut = inr (before, line, mid, at_line, subst (λ (k : ℕ). IsCutOff (line_hashed s k line so_far) mid now e) (sym number) cut)
 
   pub stops : (T : Type 0) (e : WorldError) → Goes {T = T} s (step worlds s (place + 1) line so_far) (line_hashed s (place + 1) line so_far) (PassesWith s so_far (ensemble_of line) (own_event line)) mid now new (Err e) → IsStopped s first now e
-  stops T MessageLimit passes = record { done = before; line = line; rest = drop (place + 1) s.events; are = split_at s.events place line here; passes = passes }
-  stops T Memory goes = tt
-  stops T (Clash kept new) goes = cut_off_further _ (hashed_by s) first now (Clash kept new) whole (cut_off_after (opens ++ lines_hashed s 1 before at_first) (line_hashed s (place + 1) line so_far) first mid now (Clash kept new) doing.has goes)
-  stops T (BookFull bytes) goes = cut_off_further _ (hashed_by s) first now (BookFull bytes) whole (cut_off_after (opens ++ lines_hashed s 1 before at_first) (line_hashed s (place + 1) line so_far) first mid now (BookFull bytes) doing.has goes)
+  stops T MessageLimit passes = record { done = before; line = line; mid = mid; came = at_line; passes = passes }
+  stops T Memory goes = inl tt
+  stops T (Clash kept new) goes = rejects_line (Clash kept new) goes
+  stops T (BookFull bytes) goes = rejects_line (BookFull bytes) goes
 
 -- the opening was cut off
 pub opening_stops : (s : RootScript) (first now : Account) (e : WorldError) → IsCutOff (opening_run newest s.peers s.view).hashed first now e → IsStopped s first now e
 opening_stops s first now MessageLimit cut = absurd cut
-opening_stops s first now Memory cut = tt
-opening_stops s first now (Clash kept new) cut = cut_off_further (opening_run newest s.peers s.view).hashed (hashed_by s) first now (Clash kept new) (lines_hashed s 1 s.events at_first, refl) cut
-opening_stops s first now (BookFull bytes) cut = cut_off_further (opening_run newest s.peers s.view).hashed (hashed_by s) first now (BookFull bytes) (lines_hashed s 1 s.events at_first, refl) cut
+opening_stops s first now Memory cut = inl tt
+opening_stops s first now (Clash kept new) cut = inl (subst (λ (l : List (List ℕ)). IsCutOff l first now (Clash kept new)) (sym (append-nil (opening_run newest s.peers s.view).hashed)) cut)
+opening_stops s first now (BookFull bytes) cut = inl (subst (λ (l : List (List ℕ)). IsCutOff l first now (BookFull bytes)) (sym (append-nil (opening_run newest s.peers s.view).hashed)) cut)
+
+-- ## What a run that ended in a line says of the whole
+
+module _ (s : RootScript) where
+  -- the strings up to a line come first
+  whole : (done : List RootEvent) (line : RootEvent) (rest : List RootEvent) → s.events ≡ done ++ line ∷ rest → StartsWith (hashed_until s done ++ line_hashed s (1 + length done) line (steps worlds s 1 done at_first)) (hashed_by s)
+  whole done line rest are =
+      let opens : List (List ℕ) = (opening_run newest s.peers s.view).hashed in
+      let strings : List (List ℕ) = line_hashed s (1 + length done) line (steps worlds s 1 done at_first) in
+      let parts = hashed_parts s 1 done line rest at_first in
+      let all : lines_hashed s 1 s.events at_first ≡ lines_hashed s 1 (done ++ line ∷ rest) at_first = ap (λ (l : List RootEvent). lines_hashed s 1 l at_first) are in
+      let last : lines_hashed s 1 (done ++ line ∷ []) at_first ≡ lines_hashed s 1 done at_first ++ strings = hashed_last s 1 done line at_first in (
+        parts.0,
+        ap (λ (l : List (List ℕ)). opens ++ l) (all ∙ parts.1 ∙ ap (λ (l : List (List ℕ)). l ++ parts.0) last)
+            ∙ sym (append_assoc opens (lines_hashed s 1 done at_first ++ strings) parts.0)
+            ∙ ap (λ (l : List (List ℕ)). l ++ parts.0) (sym (append_assoc opens (lines_hashed s 1 done at_first) strings)),
+      )
+
+  opening_first : StartsWith (hashed_until s []) (hashed_by s)
+  opening_first =
+      let opens : List (List ℕ) = (opening_run newest s.peers s.view).hashed in
+      (lines_hashed s 1 s.events at_first, ap (λ (l : List (List ℕ)). l ++ lines_hashed s 1 s.events at_first) (sym (append-nil opens)))
+
+  pub rejects_whole : (first now : Account) (e : WorldError) → RejectsIn s first (λ strings mid. IsCutOff strings mid now e) → IsCutOff (hashed_by s) first now e
+  rejects_whole first now e (inl cut) = cut_off_further (hashed_until s []) (hashed_by s) first now e opening_first cut
+  rejects_whole first now e (inr (done, line, mid, came, cut)) =
+      let strings : List (List ℕ) = line_hashed s (1 + length done) line (steps worlds s 1 done at_first) in
+      cut_off_further (hashed_until s done ++ strings) (hashed_by s) first now e (whole done line came.rest came.are) (cut_off_after (hashed_until s done) strings first mid now e came.has cut)
+
+  -- a string that did not fit, whatever number the error has
+  pub rejects_filled : (first now : Account) (n : ℕ) → RejectsIn s first (λ strings mid. IsCutOff strings mid now (BookFull n)) → RejectsIn s first (λ strings mid. HasFilled strings mid now)
+  rejects_filled first now n (inl cut) = inl cut.0
+  rejects_filled first now n (inr (done, line, mid, came, cut)) = inr (done, line, mid, came, cut.0)
+
+  pub passes_limit : (first : Account) → PassesIn s first → PassesLimit s
+  passes_limit first p = record { done = p.done; line = p.line; rest = p.came.rest; are = p.came.are; passes = p.passes }
 
 -- after the last line
 pub doing_last : (s : RootScript) (place : ℕ) (first : Account) (w : RootWorlds) (now : Account) → length s.events ≤ place → Doing s place first w now → Stands s (steps worlds s 1 s.events at_first) w × HasHashed (hashed_by s) first now
@@ -302,11 +342,6 @@ doing_last s place first w now le doing =
     )
 
 -- ## Worlds that open
-
--- a call that was passed on
-pub reaches_err : {T : Type 0} (first : Account) (due : Run) (r : Result T WorldError) (reached : Run) (now : Account) (G : WorldError → Type 0) (e : WorldError) → IsErrAnd r G → ((d : WorldError) → G d → d ≡ e) → MayRefuse first due now e → Reaches first due r reached now
-reaches_err first due (Ok x) reached now G e and same may = absurd and
-reaches_err first due (Err d) reached now G e and same may = subst (λ (x : WorldError). MayRefuse first due now x) (sym (same d and)) may
 
 -- nothing was read yet
 pub stands_first : (s : RootScript) (w : RootWorlds) → run_of w.root ≡ unhashed (opening_run newest s.peers s.view) → w.slots.entries ≡ [] → w.opened.items ≡ [] → string_bytes w.text ≡ [] → Stands s at_first w
@@ -321,14 +356,6 @@ stands_first s w opens none shut silent = record {
 module _ (s : RootScript) (number slot : ℕ) (view : List ℕ) (r : Roots) (old : RootWorlds) (h : Stands s r old) where
   abbrev next : Roots
   next = open_slot number slot view (r.slots slot) r
-
-  -- the slot is open already
-  pub kept_goes : (w : World) (now : Account) → get nat_cmp old.slots slot ≡ Some w → Stands s next old × HasHashed (opened_hashed s (opened_since r next)) now now
-  kept_goes w now there =
-      let same : next ≡ r = slot_kept s number slot view r old old w there h in (
-        subst (λ (x : Roots). Stands s x old) (sym same) h,
-        subst (λ (x : Roots). HasHashed (opened_hashed s (opened_since r x)) now now) (sym same) (subst (λ (l : List (ℕ × Opening)). HasHashed (opened_hashed s l) now now) (sym (since_none r)) (hashed_none now)),
-      )
 
   -- it opens
   pub opened_goes : (new : RootWorlds) (w : World) (first now : Account) → get nat_cmp old.slots slot ≡ None → run_of w ≡ unhashed (opening_run newest s.peers view)
@@ -353,16 +380,6 @@ module _ (s : RootScript) (number before : ℕ) (printed_by : List Printed) (r :
 
   abbrev pub after_hashed : ℕ → List (List ℕ)
   after_hashed place = opened_hashed s (opened_since r (after_lines place))
-
-  no_lines : drop before (take before printed_by) ≡ []
-  no_lines = drop_past before (take before printed_by) (take_few before printed_by)
-
-  pub lines_first : (w : RootWorlds) (now : Account) → Stands s r w → Stands s (after_lines before) w × HasHashed (after_hashed before) now now
-  lines_first w now h =
-      let same : after_lines before ≡ r = ap (λ (l : List Printed). open_lines s.events number l r) no_lines in (
-        subst (λ (x : Roots). Stands s x w) (sym same) h,
-        subst (λ (x : Roots). HasHashed (opened_hashed s (opened_since r x)) now now) (sym same) (subst (λ (l : List (ℕ × Opening)). HasHashed (opened_hashed s l) now now) (sym (since_none r)) (hashed_none now)),
-      )
 
   module _ (place : ℕ) (line : Printed) (here : slice_get printed_by place ≡ Some line) (low : before ≤ place) (high : place ≤ length printed_by) where
     one_line : after_lines (place + 1) ≡ open_line s.events number line (after_lines place)
@@ -412,15 +429,7 @@ module _ (s : RootScript) (number before : ℕ) (printed_by : List Printed) (r :
         further : (e : WorldError) → IsCutOff (after_hashed place ++ opened_hashed s (opened_since (after_lines place) (open_line s.events number line (after_lines place)))) first now e → IsCutOff (opened_hashed s (opened_since r (open_lines s.events number (drop before printed_by) r))) first now e
         further e cut = cut_off_further (after_hashed (place + 1)) _ first now e whole_strings (subst (λ (l : List (List ℕ)). IsCutOff l first now e) (sym strings) cut)
 
-  pub lines_last : (place : ℕ) (w : RootWorlds) (first now : Account) → length printed_by ≤ place → Stands s (after_lines place) w × HasHashed (after_hashed place) first now
-      → Stands s (open_lines s.events number (drop before printed_by) r) w × HasHashed (opened_hashed s (opened_since r (open_lines s.events number (drop before printed_by) r))) first now
-  lines_last place w first now le goes = subst (λ (l : List Printed). Stands s (open_lines s.events number (drop before l) r) w × HasHashed (opened_hashed s (opened_since r (open_lines s.events number (drop before l) r))) first now) (take_all place printed_by le) goes
-
 -- ## What is found in a map
-
-pub one_there : {A : Type 0} (o : Option A) → true ≡ is_some o → (x : A) × (o ≡ Some x)
-one_there None h = absurd cc
-one_there (Some x) h = (x, refl)
 
 pub none_there : {A : Type 0} (o : Option A) → false ≡ is_some o → o ≡ None
 none_there None h = refl

@@ -40,6 +40,10 @@ abbrev pub lines_hashed : RootScript → ℕ → List RootEvent → Roots → Li
 lines_hashed s number [] r = []
 lines_hashed s number (event ∷ more) r = line_hashed s number event r ++ lines_hashed s (number + 1) more (step worlds s number event r)
 
--- those of the whole run: those of the opening of the root come first
+-- those of the run after these lines: those of the opening of the root come first
+abbrev pub hashed_until : RootScript → List RootEvent → List (List ℕ)
+hashed_until s lines = (opening_run newest s.peers s.view).hashed ++ lines_hashed s 1 lines at_first
+
+-- those of the whole run
 abbrev pub hashed_by : RootScript → List (List ℕ)
-hashed_by s = (opening_run newest s.peers s.view).hashed ++ lines_hashed s 1 s.events at_first
+hashed_by s = hashed_until s s.events

@@ -1,5 +1,5 @@
 ghost use Rattle.std.specs.Prelude.{◌≡◌, IfOk};
-ghost use Rattle.root_runs.specs.Openings.{of_slot, told as told_of, told_to};
+ghost use Rattle.root_runs.specs.Openings.{of_slot, told as told_of};
 ghost use Rattle.root_runs.specs.Slots.{view_of_bytes as view_spelled};
 ghost use Rattle.ensemble_root.specs.Standing.{ArePlaces, told_in};
 

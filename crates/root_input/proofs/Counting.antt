@@ -4,7 +4,7 @@ use Rattle.std.specs.Io.KnownBytes.{Consumes, Keeps, prepend_known}
 use Rattle.std.proofs.lemmas.Bool.{cases_order}
 use Rattle.ens_outside.specs.Lines.{HasNoFeed, IsLine}
 use Rattle.line_reading.specs.Reading.{ComeTo, HasTaken, and_then, read_text}
-use Rattle.line_reading.proofs.Cutting.{taken_first, taken_next}
+use Rattle.line_reading.proofs.Cutting.{taken_next}
 use Rattle.line_reading.proofs.Parts.{read_line}
 use Rattle.schedule_input.specs.Reading.{most_taken}
 use Rattle.schedule_input.proofs.Cutting.{kept_takes}
@@ -38,9 +38,6 @@ module _ {S R E : Type 0} (next : S → List ℕ → Result S E) (end : S → Li
       let line = v ++ 10 ∷ [] in
       ap (λ (l : List ℕ). read_text next end first l) (append_assoc lines line rest) ∙ come (line ++ rest) ∙ read_line next end s (line ++ rest) v rest clear refl ∙ ap (λ (r : Result S E). and_then next end r (λ u. read_text next end u rest)) ok
 
-  pub reached_first : IsReached next end first first
-  reached_first = ([], λ rest. refl)
-
   pub reached_next : (s t : S) (v : List ℕ) → HasNoFeed v → next s v ≡ Ok t → IsReached next end first s → IsReached next end first t
   reached_next s t v clear ok old = (old.0 ++ (v ++ 10 ∷ []), come_next old.0 v s t clear ok old.1)
 
@@ -60,14 +57,6 @@ module _ {S R E : Type 0} (next : S → List ℕ → Result S E) (end : S → Li
   }
 
 module _ {S R E : Type 0} (next : S → List ℕ → Result S E) (end : S → List ℕ → Result R E) (first : S) (count : S → ℕ) where
-  -- no line yet
-  few_first : (source : Option (List ℕ)) → AreFew count source [] source first
-  few_first None = tt
-  few_first (Some bytes) = (omega arith, omega arith)
-
-  pub counted_first : (source : Option (List ℕ)) → HasCounted next end first count source [] source first
-  counted_first source = (taken_first next end first source, few_first source)
-
   -- one more line
   few_next : (source old new : Option (List ℕ)) (was pending : List ℕ) (s t : S) (v : List ℕ) → count t ≡ count s + 1 → Consumes (prepend_known was old) (prepend_known pending new) (v ++ 10 ∷ [])
       → (new ≡ old) ⊎ (length v + 1 + length pending ≤ 4401) → AreFew count source was old s → AreFew count source pending new t

@@ -1,8 +1,8 @@
 -- Why a reader of lines refuses a source.
-use Rattle.std.proofs.Common.{◌≡◌, ℕ, ◌<◌, List, [], ◌∷◌, ◌++◌, length, Option, Result, Err, subst}
+use Rattle.std.proofs.Common.{◌≡◌, ℕ, ◌<◌, List, [], ◌∷◌, ◌++◌, length, Option, Result, Err}
 use Rattle.std.specs.Io.KnownBytes.{Consumes}
 use Rattle.ens_outside.specs.Lines.{HasNoFeed, BeginsLong}
-use Rattle.line_reading.specs.Reading.{ReadsAs, ReadsOn}
+use Rattle.line_reading.specs.Reading.{ReadsOn}
 use Rattle.line_reading.proofs.Parts.{line_refused, long_refused, reads_as}
 use Rattle.schedule_text.specs.Errors.{Stops}
 use Rattle.schedule_text.specs.declared.error.ScheduleError.{ScheduleError}
@@ -22,11 +22,6 @@ module _ {S R : Type 0} (next : S → List ℕ → Result S ScheduleError) (end 
   refuses_long a s (Bad line cause) begins bad = long_refused next end a s (Bad line cause) begins bad
   refuses_long a s Lines begins bad = long_refused next end a s Lines begins bad
   refuses_long a s Memory begins bad = tt
-
-  pub refuses_rest : (a : Option (List ℕ)) (s : S) (v : List ℕ) (e : ScheduleError) → end s v ≡ Err e → ReadsAs next end a s (end s v) → RefusesBy next end a s (of_schedule e)
-  refuses_rest a s v (Bad line cause) is reads = subst (λ (r : Result R ScheduleError). ReadsAs next end a s r) is reads
-  refuses_rest a s v Lines is reads = subst (λ (r : Result R ScheduleError). ReadsAs next end a s r) is reads
-  refuses_rest a s v Memory is reads = tt
 
   pub refuses_later : (a b : Option (List ℕ)) (s t : S) (e : ReadError) → ReadsOn next end a s b t → RefusesBy next end b t e → RefusesBy next end a s e
   refuses_later a b s t (read.Bad line cause) on bad = reads_as next end a b s t (Err (Bad line cause)) on bad

@@ -1,5 +1,5 @@
 -- When the run of a script is legal.
-use Rattle.std.specs.Prelude.{◌≡◌, ℕ, ◌+◌, List, [], ◌∷◌, map, Option, Some}
+use Rattle.std.specs.Prelude.{◌≡◌, ℕ, ◌+◌, List, [], ◌∷◌, map, Some}
 use Rattle.ens_base.specs.Lists.{◌∈◌}
 use Rattle.ens_base.specs.declared.command.Command.TheVariants.{Get, PutOnce}
 use Rattle.ens_fields.specs.Views.{view_spelling}

@@ -1,5 +1,5 @@
 -- The run of a script: which slots open, and what each ensemble prints.
-use Rattle.std.specs.Prelude.{ℕ, ◌+◌, Bool, true, false, ◌==◌, nat_lt, if◌then◌else◌, List, [], ◌∷◌, ◌++◌, map, filter, Option, Some, None}
+use Rattle.std.specs.Prelude.{ℕ, ◌+◌, Bool, true, false, ◌==◌, nat_lt, List, [], ◌∷◌, ◌++◌, map, filter, Option, Some, None}
 use Rattle.ens_base.specs.declared.reply.Reply.{Reply}
 use Rattle.register_model.specs.declared.answer.Answer.{Answer}
 use Rattle.register_model.specs.declared.printed.Printed.{Printed}
@@ -8,7 +8,7 @@ use Rattle.history_laws.specs.Parts.{numbered_answer}
 use Rattle.root_script.specs.declared.slots.Ensemble.{Ensemble}
 use Rattle.root_script.specs.declared.slots.Ensemble.TheVariants.{Root, Slot}
 use Rattle.root_script.specs.declared.event.RootEvent.{RootEvent}
-use Rattle.root_script.specs.declared.event.RootEvent.TheVariants.{At, Open, Look, Route}
+use Rattle.root_script.specs.declared.event.RootEvent.TheVariants.{Route}
 use Rattle.root_script.specs.declared.script.RootScript.{RootScript}
 use Rattle.root_runs.specs.Lines.{Line, ensemble_of, events_of, lines_behind, number_of}
 use Rattle.root_runs.specs.Openings.{Opening, opening_in}

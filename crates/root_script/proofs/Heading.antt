@@ -24,23 +24,6 @@ use Rattle.root_script.proofs.Refusals.{refused_so}
 
 -- ---- a line of the heading of a schedule is one of a script
 
-pub heading_taken : (lines next : Progress) (text : List ℕ) → IsHeading lines → bounded text (with_heading lines text) ≡ Ok next → bounded text (with_line (begun lines) text) ≡ Ok (begun next)
-heading_taken heading.Blank next text h taken = absurd h
-heading_taken (heading.Titled form) next text h taken = by (nat_lt line_limit (length text)) (peers_of (words_of text)) taken
-  where
-    by : (b : Bool) (r : Result ℕ Cause) → (if b then Err TooLong else r >>= λ peers. Ok (heading.Counted form peers)) ≡ Ok next → (if b then Err TooLong else r >>= λ peers. Ok (Counted peers)) ≡ Ok (begun next)
-    by true r e = cc e
-    by false (Ok peers) e = ap (λ (p : Progress). Ok (begun p)) (ok_same e)
-    by false (Err cause) e = cc e
-heading_taken (heading.Counted form peers) next text h taken = by (nat_lt line_limit (length text)) (opening_of peers (words_of text)) taken
-  where
-    by : (b : Bool) (r : Result (List ℕ) Cause) → (if b then Err TooLong else r >>= λ view. Ok (heading.Running form peers view [])) ≡ Ok next
-        → (if b then Err TooLong else r >>= λ view. Ok (Running peers view [])) ≡ Ok (begun next)
-    by true r e = cc e
-    by false (Ok view) e = ap (λ (p : Progress). Ok (begun p)) (ok_same e)
-    by false (Err cause) e = cc e
-heading_taken (heading.Running form peers view events) next text h taken = absurd h
-
 pub heading_refused : (lines : Progress) (text : List ℕ) (cause : Cause) → IsHeading lines → bounded text (with_heading lines text) ≡ Err cause → bounded text (with_line (begun lines) text) ≡ Err cause
 heading_refused heading.Blank text cause h refused = absurd h
 heading_refused (heading.Titled form) text cause h refused = by (nat_lt line_limit (length text)) (peers_of (words_of text)) refused
@@ -57,18 +40,6 @@ heading_refused (heading.Counted form peers) text cause h refused = by (nat_lt l
     by false (Ok view) e = cc e
     by false (Err other) e = let same : other ≡ cause = cc e in ap Err same
 heading_refused (heading.Running form peers view events) text cause h refused = absurd h
-
--- behind its first line a heading has two, and behind those it is whole
-pub titled_next : (lines next : Progress) (text : List ℕ) → IsTitled lines → bounded text (with_heading lines text) ≡ Ok next → IsCounted next
-titled_next heading.Blank next text h taken = absurd h
-titled_next (heading.Titled form) next text h taken = by (nat_lt line_limit (length text)) (peers_of (words_of text)) taken
-  where
-    by : (b : Bool) (r : Result ℕ Cause) → (if b then Err TooLong else r >>= λ peers. Ok (heading.Counted form peers)) ≡ Ok next → IsCounted next
-    by true r e = cc e
-    by false (Ok peers) e = rw (← (ok_same e)) tt
-    by false (Err cause) e = cc e
-titled_next (heading.Counted form peers) next text h taken = absurd h
-titled_next (heading.Running form peers view events) next text h taken = absurd h
 
 pub counted_next : (lines next : Progress) (text : List ℕ) → IsCounted lines → bounded text (with_heading lines text) ≡ Ok next → IsWhole next
 counted_next heading.Blank next text h taken = absurd h

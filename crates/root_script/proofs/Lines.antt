@@ -1,14 +1,13 @@
 -- The words of a line, taken from its front.
-use Rattle.std.proofs.Common.{◌≡◌, ℕ, ◌+◌, ◌≤◌, nat_lt, true, false, List, [], ◌∷◌, ◌++◌, length, codes, Option, Some, None, Err, refl, sym, ap, ◌∙◌, arith}
+use Rattle.std.proofs.Common.{◌≡◌, ℕ, ◌+◌, ◌≤◌, nat_lt, false, List, [], ◌∷◌, ◌++◌, length, codes, Option, Some, None, Err, refl, sym, ap, ◌∙◌, arith}
 use Rattle.std.proofs.lemmas.Bool.Decides.{nat_tests}
 use Rattle.schedule_words.specs.Words.{words_of}
-use Rattle.schedule_words.specs.declared.cause.Cause.TheVariants.{Unknown, Words}
+use Rattle.schedule_words.specs.declared.cause.Cause.TheVariants.{Words}
 use Rattle.schedule_words.proofs.Joined.{parts_of-more}
 use Rattle.schedule_text.specs.Events.{event_of, line_limit, words_event}
-use Rattle.schedule_text.proofs.Lookups.{find_word}
 use Rattle.schedule_text.proofs.Parts.{parts_of_some}
-use Rattle.root_script.specs.Events.{at_of, in_ensemble, is_barred, keyword_event, own_event, root_event_of, words_root_event}
-use Rattle.root_script.specs.Keywords.{keyword_of, keyword_word, keywords, lone_cause}
+use Rattle.root_script.specs.Events.{at_of, in_ensemble, keyword_event, own_event, root_event_of, words_root_event}
+use Rattle.root_script.specs.Keywords.{keyword_of, lone_cause}
 use Rattle.root_script.specs.declared.keyword.Keyword.{Keyword}
 use Rattle.root_script.specs.declared.keyword.Keyword.TheVariants as line
 
@@ -20,15 +19,6 @@ pub by_words : (peers : ℕ) (text : List ℕ) → length text ≤ line_limit �
 by_words peers text h = rw (not_long (length text) h) refl
 
 -- ---- behind `at`
-
-pub own_barred : (peers : ℕ) (words : List (List ℕ)) (first : List ℕ) (more : List (List ℕ)) → words ≡ first ∷ more → is_barred first ≡ true → own_event peers words ≡ Err Unknown
-own_barred peers words first more e h = ap (own_event peers) e ∙ rw h refl
-
-pub own_plain : (peers : ℕ) (words : List (List ℕ)) (first : List ℕ) (more : List (List ℕ)) → words ≡ first ∷ more → is_barred first ≡ false → own_event peers words ≡ words_event peers words
-own_plain peers words first more e h = ap (own_event peers) e ∙ rw h (ap (words_event peers) (sym e))
-
-pub at_lone : (peers : ℕ) (words : List (List ℕ)) (word : List ℕ) → words ≡ word ∷ [] → at_of peers words ≡ Err Words
-at_lone peers words word e = ap (at_of peers) e
 
 pub at_words : (peers : ℕ) (words : List (List ℕ)) (word text : List ℕ) → words ≡ word ∷ words_of text → at_of peers words ≡ in_ensemble word (own_event peers (words_of text))
 at_words peers words word text e =
@@ -59,13 +49,3 @@ lone_word peers words word keyword e h = ap (words_root_event peers) e ∙ by ke
 -- a line of one word, which is not too long
 pub lone_line : (peers : ℕ) (text : List ℕ) → length text ≤ line_limit → words_of text ≡ text ∷ [] → root_event_of peers text ≡ Err (lone_cause (keyword_of text))
 lone_line peers text short lone = rw (not_long (length text) short) (lone_word peers (words_of text) text (keyword_of text) lone refl)
-
-pub no_keyword : (peers : ℕ) (words : List (List ℕ)) (first : List ℕ) (more : List (List ℕ)) → words ≡ first ∷ more → keyword_of first ≡ None → words_root_event peers words ≡ Err Unknown
-no_keyword peers words first more e h = ap (words_root_event peers) e ∙ rw h refl
-
-pub with_keyword : (peers : ℕ) (words : List (List ℕ)) (first : List ℕ) (more : List (List ℕ)) (keyword : Keyword) → words ≡ first ∷ more → keyword_of first ≡ Some keyword
-    → words_root_event peers words ≡ keyword_event peers keyword more
-with_keyword peers words first more keyword e h = ap (words_root_event peers) e ∙ rw h refl
-
-pub length-keyword : (first : List ℕ) (keyword : Keyword) → keyword_of first ≡ Some keyword → length (keyword_word keyword) ≡ length first
-length-keyword first keyword h = sym (ap (λ (l : List ℕ). length l) (find_word keyword_word keywords first keyword h))

@@ -1,5 +1,5 @@
 -- What reading the lines of a script gives, one after another, or at which line it stops and why.
-use Rattle.std.specs.Prelude.{◌≡◌, ℕ, ◌+◌, ◌==◌, if◌then◌else◌, List, [], ◌∷◌, ◌++◌, length, Result, Ok, Err}
+use Rattle.std.specs.Prelude.{◌≡◌, ℕ, ◌+◌, ◌==◌, if◌then◌else◌, List, [], ◌∷◌, ◌++◌, Result, Ok, Err}
 use Rattle.ens_base.specs.Lists.{same_bytes}
 use Rattle.ens_base.specs.Results.{◌>>=◌}
 use Rattle.line_reading.specs.Reading.{read_text}

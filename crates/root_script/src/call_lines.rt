@@ -1,4 +1,4 @@
-ghost use Rattle.std.specs.Prelude.{◌≡◌, map};
+ghost use Rattle.std.specs.Prelude.{◌≡◌};
 ghost use Rattle.schedule_text.specs.Arguments.{has_empty};
 ghost use Rattle.schedule_text.specs.Texts.{texts};
 ghost use Rattle.schedule_words.specs.Causes.{Gives};
