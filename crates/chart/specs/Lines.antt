@@ -1,11 +1,11 @@
 -- The lines that a run shows, in order.
-use Rattle.std.specs.Prelude.{ℕ, zero, suc, ◌+◌, ◌-◌, ◌&&◌, Bool, true, List, [], ◌∷◌, ◌++◌, map, drop, length, Option, None, Some, slice_get, if◌then◌else◌}
+use Rattle.std.specs.Prelude.{ℕ, zero, suc, ◌+◌, ◌-◌, ◌&&◌, Bool, true, false, List, [], ◌∷◌, ◌++◌, map, drop, length, Option, None, Some, slice_get, if◌then◌else◌}
 use Rattle.network.specs.Mail.{Mail, goes, is_among, oldest, most_messages}
 use Rattle.schedule_text.specs.declared.event.ScheduleEvent.{ScheduleEvent}
 use Rattle.schedule_text.specs.declared.event.ScheduleEvent.TheVariants.{Call, Tick, Deliver, Pass, Lose, Calm, CalmAmong, Change, Stop, Start}
 use Rattle.schedule_text.specs.declared.schedule.Schedule.{Schedule}
 use Rattle.wire_frames.specs.declared.frame.Frame.{Frame}
-use Rattle.world_model.specs.Activities.{activity_at}
+use Rattle.world_model.specs.Activities.{activity_at, is_stale}
 use Rattle.world_model.specs.declared.watching.Activity.{Activity}
 use Rattle.world_spec.specs.Lines.{applied, everyone, set_of}
 use Rattle.world_spec.specs.Runs.{Run, delivered, opening_run, unhashed}
@@ -13,24 +13,26 @@ use Rattle.chart.specs.declared.fate.Fate.{Fate}
 use Rattle.chart.specs.declared.fate.Which.{Which}
 use Rattle.chart.specs.Notes.{arrow_line, note_line, event_note, printed_words, change_note}
 
--- what a peer that is doing this makes of a message
-abbrev pub fate_at : Activity → Fate
-fate_at Activity.Down = Fate.Missed
-fate_at other = Fate.Taken
+-- what becomes of a message that was sent before trees got version two or not, and whose receiver is doing
+-- this
+abbrev pub fate_at : Bool → Activity → Fate
+fate_at true activity = Fate.Missed
+fate_at false Activity.Down = Fate.Missed
+fate_at false other = Fate.Taken
 
 -- what a step of a peer shows, from the run before to the run after: what was printed, and the change of
 -- what the peer is doing
 abbrev pub step_lines : ℕ → Run → Run → List (List ℕ)
 step_lines peer before after = map (λ p. note_line peer (printed_words p)) (drop (length before.printed) after.printed) ++ change_note peer (activity_at peer before) (activity_at peer after)
 
--- a message that is delivered, and the step of its receiver
-abbrev pub frame_lines : Option Frame → Run → Run → List (List ℕ)
-frame_lines None before after = []
-frame_lines (Some f) before after = arrow_line (fate_at (activity_at f.to before)) f ∷ step_lines f.to before after
+-- a message of this number that is delivered, and the step of its receiver
+abbrev pub frame_lines : ℕ → Option Frame → Run → Run → List (List ℕ)
+frame_lines n None before after = []
+frame_lines n (Some f) before after = arrow_line (fate_at (is_stale n before) (activity_at f.to before)) f ∷ step_lines f.to before after
 
 -- the delivery of the message of this number
 abbrev pub delivery_lines : ℕ → Run → List (List ℕ)
-delivery_lines n w = frame_lines (slice_get w.mail.sent n) w (delivered n w)
+delivery_lines n w = frame_lines n (slice_get w.mail.sent n) w (delivered n w)
 
 -- the same, if a number is given
 abbrev pub delivery_lines_if : Option ℕ → Run → List (List ℕ)

@@ -21,10 +21,14 @@ use std::thread::Threads;
 use wire_frames::Frame;
 use world_model::{Activity, World, WorldError, all_peers, set_of_members};
 
-/// Returns what a peer that is doing this makes of a message.
-fn fate_at(activity: Activity) -> Fate
-    ensures { result ≡ fate_of activity }
+/// Returns what becomes of a message whose receiver is doing this. A stale one was sent before trees
+/// got version two, and is given to nobody.
+fn fate_at(stale: bool, activity: Activity) -> Fate
+    ensures { result ≡ fate_of stale activity }
 {
+    if stale {
+        return Fate::Missed;
+    }
     match activity {
         Activity::Down => Fate::Missed,
         _ => Fate::Taken,
@@ -130,7 +134,8 @@ fn deliver<H: Hasher16, R: Threads + Sync>(
         return world.deliver(rt, alloc, hasher, number);
     };
     let before = Before::of(world, PeerId(frame.to));
-    lines.arrow(alloc, fate_at(before.activity), frame)?;
+    let fate = fate_at(world.is_stale(number), before.activity);
+    lines.arrow(alloc, fate, frame)?;
     world.deliver(rt, alloc, hasher, number)?;
     add_step(alloc, world, lines, &before)?;
     Ok(())

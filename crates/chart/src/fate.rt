@@ -5,7 +5,7 @@ use ens_base::PeerId;
 pub enum Fate {
     /// Its receiver took it.
     Taken,
-    /// It was lost, or its receiver was down.
+    /// It was lost, its receiver was down, or it was sent before trees got version two.
     Missed,
     /// It still waits at the end of the run.
     Waiting,

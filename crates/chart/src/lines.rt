@@ -1,5 +1,4 @@
 ghost use Rattle.std.specs.Prelude.{◌≡◌, ◌++◌, OnOk, map, string_bytes};
-ghost use Rattle.ens_base.specs.View.{IsPeer};
 
 use crate::fate::Fate;
 use crate::notes::{activity_word, arrow_line, note_over, peer_of, push_printed};

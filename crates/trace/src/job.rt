@@ -5,6 +5,7 @@ ghost use Rattle.ens_base.specs.declared.status.Status.{Status};
 ghost use Rattle.ens_outside.specs.Written.{AppendsFront};
 ghost use Rattle.world_spec.specs.Lines.{run_of_schedule};
 ghost use Rattle.world_spec.specs.Messages.{IsPastMessages, IsWithinMessages};
+ghost use Rattle.schedule_input.specs.Reading.{WasCutOff, WasTakenTo};
 ghost use Rattle.schedule_premise.specs.Premise.{first_unsound};
 ghost use Rattle.schedule_text.specs.Reading.{schedule_of};
 ghost use Rattle.schedule_text.specs.Spelling.{IsSchedule};
@@ -90,6 +91,8 @@ fn trace_ending<S: Source, R: Threads + Sync>(
     ensures printed { IfOk result (λ e. Traces names (S.left input.old) e.status (string_bytes e.text)) }
     ensures end { IfOk result (λ e. e.status ≡ Status.Done → IsAtEnd (S.left input.new)) }
     ensures read { IfOk result (λ e. e.status ≡ Status.ReadFault → Rose (S.fault_count input.old) (S.fault_count input.new)) }
+    ensures cut { IfOk result (λ e. e.status ≡ Status.ReadFault → WasCutOff (S.left input.old) (S.left input.new)) }
+    ensures taken { WasTakenTo (S.left input.old) (S.left input.new) }
 {
     match read_schedule(alloc, input) {
         Ok(schedule) => run_ending(rt, alloc, names, &schedule),
@@ -114,9 +117,13 @@ pub fn trace<S: Source, O: Sink, R: Threads + Sync>(
     output: &mut O,
 ) -> Status
     ensures printed { result ≢ Status.WriteFault → (text : List ℕ) × Traces names (S.left input.old) result text × Appends (O.written output.old) (O.written output.new) text }
-    ensures front { result ≡ Status.WriteFault → (status : Status) × (text : List ℕ) × Traces names (S.left input.old) status text × AppendsFront (O.written output.old) (O.written output.new) text }
+    ensures front { result ≡ Status.WriteFault → (status : Status) × (text : List ℕ) × Traces names (S.left input.old) status text × (status ≡ Status.Done → IsAtEnd (S.left input.new)) × (status ≡ Status.ReadFault → Rose (S.fault_count input.old) (S.fault_count input.new) × WasCutOff (S.left input.old) (S.left input.new)) × AppendsFront (O.written output.old) (O.written output.new) text }
     ensures end { result ≡ Status.Done → IsAtEnd (S.left input.new) }
     ensures read { result ≡ Status.ReadFault → Rose (S.fault_count input.old) (S.fault_count input.new) }
+    // The input failed before the bytes that it gave decided anything.
+    ensures cut { result ≡ Status.ReadFault → WasCutOff (S.left input.old) (S.left input.new) }
+    // However it ends, it took lines none of which is bad, and at most 4,401 bytes after them.
+    ensures taken { WasTakenTo (S.left input.old) (S.left input.new) }
     ensures write { result ≡ Status.WriteFault → Rose (O.fault_count output.old) (O.fault_count output.new) }
 {
     match trace_ending(rt, alloc, names, input) {

@@ -17,5 +17,5 @@ returns-in_err-arrow-clause-begins g c = begins_same c.args.world.now
 pub returns-clause-lines : goal.returns-clause-lines
 returns-clause-lines g c =
     let here : slice_get c.args.world.now.network.sent c.args.number ≡ Some c.in-Some.frame.now = grind (arith, common_steps, slice_get_read, c.in-Some.ensures.lookup, c.sent.ensures.sent) in
-    delivery_drawn c.args.lines.now c.arrow.new.self c.add_step.new.lines c.args.number c.in-Some.frame.now (run_of c.args.world.now) (run_of c.deliver-2.new.self) c.fate_at.result c.of-before.result.peer c.of-before.result.printed c.of-before.result.activity
-    here c.of-before.ensures.peer c.of-before.ensures.printed c.of-before.ensures.activity c.fate_at.ensures c.in_ok-arrow.ensures c.in_ok-deliver.ensures.reaches.0 c.in_ok-add_step.ensures
+    delivery_drawn c.args.lines.now c.arrow.new.self c.add_step.new.lines c.args.number c.in-Some.frame.now (run_of c.args.world.now) (run_of c.deliver-2.new.self) c.fate_at-fate.result c.is_stale.result c.of-before.result.peer c.of-before.result.printed c.of-before.result.activity
+    here c.of-before.ensures.peer c.of-before.ensures.printed c.of-before.ensures.activity c.is_stale.ensures c.fate_at-fate.ensures c.in_ok-arrow.ensures c.in_ok-deliver.ensures.reaches.0 c.in_ok-add_step.ensures

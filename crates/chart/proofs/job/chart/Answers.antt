@@ -1,6 +1,7 @@
 use Rattle.std.proofs.Common.{refl}
 use Rattle.ens_base.specs.declared.status.Status.TheVariants as Status
+use Rattle.ens_base.proofs.Statuses.{memory_not_done, memory_no_fault}
 use Rattle.chart.proofs.job.chart.Goals as goal
 
 pub returns-in-Err-clause-front : goal.returns-in-Err-clause-front
-returns-in-Err-clause-front g c = λ fault. (Status.Memory, _, refl, c.finish-in-Err.ensures.front fault)
+returns-in-Err-clause-front g c = λ fault. (Status.Memory, _, refl, (λ is. absurd (memory_not_done is)), (λ is. absurd (memory_no_fault is)), c.finish-in-Err.ensures.front fault)
