@@ -5,7 +5,7 @@ use exchange::{Ask, AskError, Step, give};
 use std::alloc::Global;
 use std::test::Fail;
 use std::thread::Threads;
-use tree_node::Scan;
+use tree_node::{Scan, TreeVersion};
 use tree_verify::{NoGate, scan};
 
 /// 33 keys whose MD5s begin with 900, in ascending order: one more than a page holds. Found with
@@ -18,7 +18,7 @@ const KEYS: [&str; 33] = [
 
 /// A tree of the keys 0 to `count` - 1, of one byte each.
 fn numbers(alloc: Global, count: u8) -> Result<MemTree, Fail> {
-    let mut tree = fresh(alloc)?;
+    let mut tree = fresh(alloc, TreeVersion::One)?;
     for key in 0..count {
         insert(alloc, &mut tree, &entry(alloc, &[key], 1)?)?;
     }
@@ -27,7 +27,7 @@ fn numbers(alloc: Global, count: u8) -> Result<MemTree, Fail> {
 
 /// A tree of the keys that begin with 900.
 fn one_segment(alloc: Global) -> Result<MemTree, Fail> {
-    let mut tree = fresh(alloc)?;
+    let mut tree = fresh(alloc, TreeVersion::One)?;
     for key in KEYS {
         insert(alloc, &mut tree, &entry(alloc, key.as_bytes(), 1)?)?;
     }
@@ -113,7 +113,12 @@ fn an_ask_receives_what_the_own_tree_lacks(rt: HostRuntime) -> Result<(), Fail> 
         keys.sort()?;
         assert!(rt; asked.counts.len() == questions && keys.iter().copied().eq(own..other));
     }
-    let asked = scan_and_ask(&rt, alloc, fresh(alloc)?, one_segment(alloc)?)?;
+    let asked = scan_and_ask(
+        &rt,
+        alloc,
+        fresh(alloc, TreeVersion::One)?,
+        one_segment(alloc)?,
+    )?;
     assert!(rt; asked.counts.as_slice() == [0, 0, 0, 32, 33].as_slice());
     assert!(rt; asked.keys.as_slice() == KEYS.concat(alloc)?.as_bytes());
     Ok(())

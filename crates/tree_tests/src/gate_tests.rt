@@ -60,7 +60,7 @@ impl Gate for TwoHalves {
     }
 }
 
-/// 20,000 entries in the order of their keys, enough that no segment is empty.
+/// 20,000 entries in the order of their keys, enough that in version one no segment is empty.
 fn many(alloc: Global) -> Result<Vec<Entry>, Fail> {
     let mut entries = Vec::new(alloc);
     for key in 0..20_000u32 {
@@ -69,36 +69,26 @@ fn many(alloc: Global) -> Result<Vec<Entry>, Fail> {
     Ok(entries)
 }
 
-/// The 16 and 256 inner nodes below the root and the 4,096 segments are hashed in halves, which run at
-/// once; the root is hashed whole.
+/// Each level of at least 16 nodes is hashed in halves, which run at once, and the root is hashed whole.
+/// In version one these are the 16 and the 256 inner nodes below the root and the segments; version two
+/// has two more levels of inner nodes.
 #[test]
 fn gate_two_halves(rt: HostRuntime) -> Result<(), Fail> {
     let alloc = rt.alloc();
     let entries = many(alloc)?;
-    assert!(rt; ascends(entries.as_slice()));
-    let plain = build(
-        &rt,
-        alloc,
-        TreeVersion::One,
-        &mut PlainHasher,
-        &NoGate,
-        entries.as_slice(),
-    )?;
-    let gate = TwoHalves::new();
-    let built = build(
-        &rt,
-        alloc,
-        TreeVersion::One,
-        &mut PlainHasher,
-        &gate,
-        entries.as_slice(),
-    )?;
-    assert!(rt; gate.counts() == [3, 3, 0] && built.top == plain.top);
-    let mut tree = fresh(alloc)?;
-    install(alloc, &mut tree, &built)?;
-    let gate = TwoHalves::new();
-    let found = scan(&rt, alloc, &mut tree, &mut PlainHasher, &gate)?;
-    assert!(rt; gate.counts() == [3, 3, 0] && found.damaged.as_slice().is_empty());
-    assert!(rt; found.entries.as_slice() == entries.as_slice());
+    let entries = entries.as_slice();
+    for (version, halved) in [(TreeVersion::One, 3u64), (TreeVersion::Two, 5)] {
+        assert!(rt; ascends(entries));
+        let plain = build(&rt, alloc, version, &mut PlainHasher, &NoGate, entries)?;
+        let gate = TwoHalves::new();
+        let built = build(&rt, alloc, version, &mut PlainHasher, &gate, entries)?;
+        assert!(rt; gate.counts() == [halved, halved, 0] && built.top == plain.top);
+        let mut tree = fresh(alloc, version)?;
+        install(alloc, &mut tree, &built)?;
+        let gate = TwoHalves::new();
+        let found = scan(&rt, alloc, &mut tree, &mut PlainHasher, &gate)?;
+        assert!(rt; gate.counts() == [halved, halved, 0] && found.damaged.as_slice().is_empty());
+        assert!(rt; found.entries.as_slice() == entries);
+    }
     Ok(())
 }

@@ -9,7 +9,7 @@ use tree_verify::NoGate;
 
 /// A tree into which the keys 0 to 99, of one byte each, were written in the versions 1 to 199.
 fn written(alloc: Global) -> Result<MemTree, Fail> {
-    let mut tree = fresh(alloc)?;
+    let mut tree = fresh(alloc, TreeVersion::One)?;
     for seq in 1..200u64 {
         insert(alloc, &mut tree, &entry(alloc, &[(seq % 100) as u8], seq)?)?;
     }
@@ -55,7 +55,7 @@ fn a_build_makes_the_tree_of_the_inserts_and_a_rebuild_that_of_its_entries(
         &NoGate,
         newest.as_slice(),
     )?;
-    let mut tree = fresh(alloc)?;
+    let mut tree = fresh(alloc, TreeVersion::One)?;
     install(alloc, &mut tree, &built)?;
     assert!(rt; tree.top() == written(alloc)?.top() && tree.top() == Some(built.top));
     insert(alloc, &mut tree, &entry(alloc, b"gone", 1)?)?;

@@ -36,7 +36,7 @@ fn abc(alloc: Global) -> Result<Entry, Fail> {
 
 /// The tree of `abc`.
 fn tree_of_abc(alloc: Global) -> Result<MemTree, Fail> {
-    let mut tree = fresh(alloc)?;
+    let mut tree = fresh(alloc, TreeVersion::One)?;
     insert(alloc, &mut tree, &abc(alloc)?)?;
     Ok(tree)
 }

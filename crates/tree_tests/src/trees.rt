@@ -22,9 +22,9 @@ pub(crate) fn entry(alloc: Global, key: &[u8], seq: u64) -> Result<Entry, Fail> 
     })
 }
 
-pub(crate) fn fresh(alloc: Global) -> Result<MemTree, TreeError> {
+pub(crate) fn fresh(alloc: Global, version: TreeVersion) -> Result<MemTree, TreeError> {
     let nodes = MemNodes::new(alloc, Vec::new(alloc));
-    match Tree::fresh(alloc, nodes, TreeVersion::One, &mut PlainHasher) {
+    match Tree::fresh(alloc, nodes, version, &mut PlainHasher) {
         Ok(tree) => Ok(tree),
         Err(refused) => Err(refused.error),
     }
