@@ -129,9 +129,6 @@ blind_reads commands.Delete = tt
 pub whole_task : (task : Pending) (l : Leader) → IsTask task → IsWhole l → IsWhole (with_task task l)
 whole_task task l is h = record { stages = h.stages; task = is; index = h.index }
 
-whole_number : (l : Leader) (seq : ℕ) → IsWhole l → IsWhole (record l { seq = seq })
-whole_number l seq h = record { stages = h.stages; task = h.task; index = h.index }
-
 one_later : (n : ℕ) → n ≤ n + 1
 one_later n = omega arith
 

@@ -1,4 +1,4 @@
-ghost use Rattle.std.specs.Prelude.{◌≡◌, ℕ, map, Option, Some, None, List};
+ghost use Rattle.std.specs.Prelude.{◌≡◌, ℕ, map, Some, None, List};
 ghost use Rattle.ens_base.specs.declared.epoch.Epoch.{Epoch};
 ghost use Rattle.call_table.specs.Calls.{older};
 ghost use Rattle.call_table.specs.Rows.{row_at, check_at};

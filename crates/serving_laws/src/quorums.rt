@@ -1,5 +1,4 @@
-ghost use Rattle.std.specs.Prelude.{◌≡◌, ◌≢◌, ◌↔◌, ℕ, true, false, Bool, Option, Some, None, List, [], ◌∷◌};
-ghost use Rattle.ens_base.specs.Lists.{◌∈◌};
+ghost use Rattle.std.specs.Prelude.{◌≡◌, ◌≢◌, ℕ, true, false, Bool, Option, Some, None, List, [], ◌∷◌};
 ghost use Rattle.ens_base.specs.View.{IsPeer};
 ghost use Rattle.ens_base.specs.declared.entry.Entry.{Entry};
 ghost use Rattle.ens_base.specs.declared.epoch.Epoch.{Epoch};

@@ -1,4 +1,4 @@
-ghost use Rattle.std.specs.Prelude.{◌≡◌, ◌↔◌, ◌≤◌, ◌<◌, ℕ, true, false, Bool, Option, Some, List, [], ◌∷◌, ◌++◌};
+ghost use Rattle.std.specs.Prelude.{◌≡◌, ◌≤◌, ◌<◌, ℕ, true, false, Option, Some, List};
 ghost use Rattle.ens_base.specs.declared.command.Command.{Command as Words};
 ghost use Rattle.ens_base.specs.declared.epoch.Version.{Version};
 ghost use Rattle.ens_base.specs.declared.reply.Reply.TheVariants as replies;

@@ -76,7 +76,7 @@ begins_keep a = record {
   due = λ keys calls answers taken is. absurd (false≢true keys);
 }
 
-begun_true : (change : ChangeState) → HasBegun change → has_begun change ≡ true
+pub begun_true : (change : ChangeState) → HasBegun change → has_begun change ≡ true
 begun_true Settled begun = absurd begun
 begun_true (Wanted change) begun = refl
 begun_true (Finishing f) begun = refl

@@ -32,10 +32,10 @@ step_few me k event x room =
     (λ u y o few. concluded_passes k me P y o (λ v z q. Done z q) few (λ v z q fine. fine))
 
 -- what holds of each end of a plan holds where it may end
-ended : (R : State → Type 0) (p : Plan State) (y : State) → Follows IsStepCall (λ z o. R z) p → MayEnd p y → R y
-ended R (Done x out) y follows is = subst R (sym is) follows
-ended R (Say note p) y follows end = ended R p y follows end
-ended R (Ask call next) y follows (a, end) = ended R (next a) y (follows.1 a) end
+pub held_at_end : (R : State → Type 0) (p : Plan State) (y : State) → Follows IsStepCall (λ z o. R z) p → MayEnd p y → R y
+held_at_end R (Done x out) y follows is = subst R (sym is) follows
+held_at_end R (Say note p) y follows end = held_at_end R p y follows end
+held_at_end R (Ask call next) y follows (a, end) = held_at_end R (next a) y (follows.1 a) end
 
 room_for : (a b c : ℕ) → a ≤ b → a + c ≤ c + b
 room_for a b c less = omega (arith, less)
@@ -44,7 +44,7 @@ pub reached_few : (me : ℕ) (mode : Mode) (saved : SavedFact) (trusted : Bool) 
 reached_few me mode saved trusted [] x is = subst (λ (y : State). length (unanswered y.phase) ≤ 0) (sym is) (owed_none 0)
 reached_few me mode saved trusted (event ∷ events) x (y, before, end) =
     let k : ℕ = calls_of event + calls_among events in
-    ended (λ z. count z.phase ≤ k) (step_of me event y) x
+    held_at_end (λ z. count z.phase ≤ k) (step_of me event y) x
     (step_few me k event y (room_for (count y.phase) (calls_among events) (calls_of event) (reached_few me mode saved trusted events y before))) end
 
 few_calls : (phase : Phase) (n : ℕ) → count phase ≤ n → n < 2 ^ 60 → HasFewCalls phase
@@ -97,7 +97,7 @@ pub reached_rests : (me : ℕ) (mode : Mode) (saved : SavedFact) (trusted : Bool
 reached_rests me mode saved trusted [] x is less = subst (λ (y : State). IsResting y.phase) (sym is) tt
 reached_rests me mode saved trusted (event ∷ events) x (y, before, end) less =
     let k : ℕ = calls_of event + calls_among events in
-    ended (λ z. IsResting z.phase) (step_of me event y) x
+    held_at_end (λ z. IsResting z.phase) (step_of me event y) x
     (step_rests me k event y less (room_for (count y.phase) (calls_among events) (calls_of event) (reached_few me mode saved trusted events y before))
     (reached_rests me mode saved trusted events y before (fewer (2 ^ 60) (calls_among events) (calls_of event) less))) end
 
@@ -105,7 +105,7 @@ pub reached_whole : (me : ℕ) (mode : Mode) (saved : SavedFact) (trusted : Bool
 reached_whole me mode saved trusted [] x is less = subst (λ (y : State). LeadsWhole y.phase) (sym is) tt
 reached_whole me mode saved trusted (event ∷ events) x (y, before, end) less =
     let few : calls_among events < 2 ^ 60 = fewer (2 ^ 60) (calls_among events) (calls_of event) less in
-    ended (λ z. LeadsWhole z.phase) (step_of me event y) x (step_whole me event y (reached_rests me mode saved trusted events y before few) (reached_whole me mode saved trusted events y before few)) end
+    held_at_end (λ z. LeadsWhole z.phase) (step_of me event y) x (step_whole me event y (reached_rests me mode saved trusted events y before few) (reached_whole me mode saved trusted events y before few)) end
 
 module _ (other : Rest State (List Task)) (me : ℕ) (mode : Mode) (saved : SavedFact) (trusted : Bool) (event : Event) (events : List Event) (x : State) where
   pub none_left : Reached me mode saved trusted events x → calls_among (event ∷ events) < 2 ^ 60 → StepsAlone (step_or other me event x)

@@ -249,7 +249,8 @@ timely_few false l r timely calls =
     let kept : List Waiting = filter (λ w. not (is_due w)) aged in
     trans (length r.0.table.calls) (length kept) (length l.table.calls) (same_calls kept r.0.table.calls (timely.calls refl)) (trans (length kept) (length aged) (length l.table.calls) (filtered_few (λ w. not (is_due w)) aged) (older_few l.table.calls))
 
-late_calls : (late : Bool) (a b : Leader × LeadOut) → late ≡ true → (if late then a else b).0.table.calls ≡ a.0.table.calls
+-- the calls of a leader that steps down in a tick
+pub late_calls : (late : Bool) (a b : Leader × LeadOut) → late ≡ true → (if late then a else b).0.table.calls ≡ a.0.table.calls
 late_calls true a b is = refl
 late_calls false a b is = absurd cc
 

@@ -11,5 +11,7 @@ pub mod Taken
 pub mod Answered
 pub mod Served
 pub mod Ticking
+pub mod Telling
 pub mod ServedCalls
 pub mod ServedTicks
+pub mod Promising

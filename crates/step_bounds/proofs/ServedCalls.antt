@@ -28,13 +28,9 @@ use Rattle.step_plans.specs.Plans.{Follows, nothing}
 use Rattle.step_bounds.specs.Answering.{HasBegun, AreAnswered, AnswersCall, refusal_of, busy_answer_of, waiting_of}
 use Rattle.step_bounds.specs.Reached.{unanswered}
 use Rattle.step_bounds.specs.Resting.{IsResting, LeadsWhole}
+use Rattle.step_bounds.proofs.Answered.{begun_true}
 use Rattle.step_bounds.proofs.Served.{Kept, kept_keeps, at_first}
 use Rattle.step_bounds.proofs.Wholes.{After, CallComes, both, step_follows}
-
-is_begun : (change : ChangeState) → HasBegun change → has_begun change ≡ true
-is_begun Settled begun = absurd begun
-is_begun (Wanted change) begun = refl
-is_begun (Finishing f) begun = refl
 
 has_one : (change : ChangeState) → has_begun change ≡ true → HasBegun change
 has_one Settled is = absurd (false≢true is)
@@ -61,8 +57,8 @@ module _ (me : ℕ) (call : CallIn) (l : Leadership) where
       let calls : List Waiting = l.leader.table.calls ++ waiting_of call ∷ [] in
       either (λ (o : LeadOut). Begins [] calls (joined (waiting_of call) l.leader, o)) (waiting_on call.key l.leader.table.calls == 0) _ _ (at_first [] calls [] refl) (at_first [] calls [] refl)
 
-  pub call_goes : (x : State) → x.phase ≡ phases.Leading l → IsResting x.phase → LeadsWhole x.phase → Follows IsStepCall (λ y out. AnswersCall call l (unanswered y.phase) out.answers) (step_of me (events.Call call) x)
-  call_goes x same rests whole = by_change (has_begun l.change) refl (nat_le 16 many) refl
+  pub call_answers : (x : State) → x.phase ≡ phases.Leading l → IsResting x.phase → LeadsWhole x.phase → Follows IsStepCall (λ y out. AnswersCall call l (unanswered y.phase) out.answers) (step_of me (events.Call call) x)
+  call_answers x same rests whole = by_change (has_begun l.change) refl (nat_le 16 many) refl
     where
       many : ℕ
       many = waiting_on call.key l.leader.table.calls
@@ -83,14 +79,10 @@ module _ (me : ℕ) (call : CallIn) (l : Leadership) where
           goes (busy_answer_of call ∷ []) l.leader.table.calls
           (subst (λ (b : Bool). Begins (busy_answer_of call ∷ []) l.leader.table.calls (if b then refuses else (if nat_le 16 many then is_busy else joins))) (sym none)
           (subst (λ (full : Bool). Begins (busy_answer_of call ∷ []) l.leader.table.calls (if full then is_busy else joins)) (sym room) (at_first (busy_answer_of call ∷ []) l.leader.table.calls (busy_answer_of call ∷ []) refl)))
-          (λ after answers are. record { begun = λ one. absurd (false≢true (sym none ∙ is_begun l.change one)); busy = λ no enough. are; waits = λ no few. absurd (false≢true (sym (below many few) ∙ room)) })
+          (λ after answers are. record { begun = λ one. absurd (false≢true (sym none ∙ begun_true l.change one)); busy = λ no enough. are; waits = λ no few. absurd (false≢true (sym (below many few) ∙ room)) })
       by_change false none false room =
           let calls : List Waiting = l.leader.table.calls ++ waiting_of call ∷ [] in
           goes [] calls
           (subst (λ (b : Bool). Begins [] calls (if b then refuses else (if nat_le 16 many then is_busy else joins))) (sym none)
           (subst (λ (full : Bool). Begins [] calls (if full then is_busy else joins)) (sym room) joins_begin))
-          (λ after answers are. record { begun = λ one. absurd (false≢true (sym none ∙ is_begun l.change one)); busy = λ no enough. absurd (false≢true (sym room ∙ at_least many enough)); waits = λ no few. are })
-
-pub call_answers : (me : ℕ) (call : CallIn) (l : Leadership) (x : State) → x.phase ≡ phases.Leading l → IsResting x.phase → LeadsWhole x.phase
-    → Follows IsStepCall (λ y out. AnswersCall call l (unanswered y.phase) out.answers) (step_of me (events.Call call) x)
-call_answers me call l x same rests whole = call_goes me call l x same rests whole
+          (λ after answers are. record { begun = λ one. absurd (false≢true (sym none ∙ begun_true l.change one)); busy = λ no enough. absurd (false≢true (sym room ∙ at_least many enough)); waits = λ no few. are })

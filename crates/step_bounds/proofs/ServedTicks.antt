@@ -26,7 +26,8 @@ use Rattle.step_bounds.specs.Answering.{AreAnswered, AnswersTick, timeout_of, st
 use Rattle.step_bounds.specs.Reached.{unanswered}
 use Rattle.step_bounds.specs.Resting.{IsResting, LeadsWhole}
 use Rattle.step_bounds.proofs.Served.{Kept, kept_keeps}
-use Rattle.step_bounds.proofs.Walks.{left_calls, left_given, late_calls}
+use Rattle.step_bounds.proofs.Counts.{late_calls}
+use Rattle.step_bounds.proofs.Walks.{left_calls, left_given}
 use Rattle.step_bounds.proofs.Wholes.{KeepsGiven, TickComes, both, step_follows}
 
 -- each of these calls is answered `timeout`, and none is unanswered
@@ -69,8 +70,8 @@ module _ (me : ℕ) (l : Leadership) where
   early_begins first start false calls more is same are = record { served = []; left = start; serves = refl; ends = inl (are ∙ sym (append-nil first), same) }
   early_begins first start true calls more is same are = absurd (false≢true (sym is))
 
-  pub tick_goes : (x : State) → x.phase ≡ phases.Leading l → IsResting x.phase → LeadsWhole x.phase → Follows IsStepCall (λ y out. AnswersTick l (unanswered y.phase) out.answers) (step_of me events.Tick x)
-  tick_goes x same rests whole = by (stops_by_age l) refl (row_5_ticks (end_of (older l.change)) l.leader).timely
+  pub tick_answers : (x : State) → x.phase ≡ phases.Leading l → IsResting x.phase → LeadsWhole x.phase → Follows IsStepCall (λ y out. AnswersTick l (unanswered y.phase) out.answers) (step_of me events.Tick x)
+  tick_answers x same rests whole = by (stops_by_age l) refl (row_5_ticks (end_of (older l.change)) l.leader).timely
     where
       by : (late : Bool) → stops_by_age l ≡ late → IsTimely (stops_by_age l) l.leader ticked → Follows IsStepCall (λ y out. AnswersTick l (unanswered y.phase) out.answers) (step_of me events.Tick x)
       by true late timely =
@@ -86,6 +87,3 @@ module _ (me : ℕ) (l : Leadership) where
           (early_begins first (not_due older_calls) ticked.1.leave ticked.0.table.calls ticked.1.answers (timely.leave ∙ late) (timely.calls late)
           (timely.answers ∙ ap (λ (b : Bool). if◌then◌else◌ {A = List AnswerOut} b [] (map left_answer (filter is_due older_calls))) late)))
           (λ y out good. record { stops = λ is. absurd (false≢true (sym late ∙ is)); goes_on = λ is. good.1 })
-
-pub tick_answers : (me : ℕ) (l : Leadership) (x : State) → x.phase ≡ phases.Leading l → IsResting x.phase → LeadsWhole x.phase → Follows IsStepCall (λ y out. AnswersTick l (unanswered y.phase) out.answers) (step_of me events.Tick x)
-tick_answers me l x same rests whole = tick_goes me l x same rests whole

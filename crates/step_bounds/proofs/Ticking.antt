@@ -1,6 +1,6 @@
 -- What a tick of a leader does besides its calls.
 use Rattle.std.specs.Prelude.{◌↔◌}
-use Rattle.std.proofs.Common.{◌≡◌, ◌^◌, ◌-◌, ◌∙◌, arith, ap, refl, sym, subst, append-nil, ℕ, suc, Bool, true, false, if◌then◌else◌, List, [], ◌∷◌, ◌++◌, None}
+use Rattle.std.proofs.Common.{◌≡◌, ◌^◌, ◌-◌, ◌∙◌, ap, refl, sym, subst, append-nil, ℕ, Bool, true, false, if◌then◌else◌, List, [], ◌∷◌, ◌++◌, None}
 use Rattle.std.proofs.lemmas.Bool.{false≢true}
 use Rattle.call_table.specs.Calls.{has_calls}
 use Rattle.leader_words.specs.declared.out.LeadOut.{LeadOut}
@@ -26,6 +26,7 @@ use Rattle.step_plans.specs.Plans.{Plan, Done, Out, Rest, nothing}
 use Rattle.step_plans.specs.Tasks.{named}
 use Rattle.step_plans.specs.declared.tasks.Task.{Task}
 use Rattle.step_plans.specs.declared.tasks.Task.TheVariants as tasks
+use Rattle.peer_plan.proofs.Aging.{most_is_some}
 use Rattle.step_bounds.specs.Answering.{HasBegun}
 use Rattle.step_bounds.specs.Changing.{HasTwoViews}
 use Rattle.step_bounds.proofs.Answered.{no_tasks}
@@ -61,10 +62,6 @@ keeps_begun first (Wanted change) begun = refl
 keeps_begun first (Finishing f) begun = refl
 
 -- ## A tick without calls
-
-most_is_some : most_turns ≡ suc (2 ^ 64 - 2)
-unfolding most_turns
-most_is_some = omega arith
 
 one_task : (me : ℕ) (t : Task) (x : State) (o : Out) (next : Rest State (List Task)) → driven me most_turns (t ∷ []) x o next ≡ task_done me t x o (λ more y p. driven me (2 ^ 64 - 2) (more ++ []) y p next)
 unfolding driven

@@ -77,12 +77,8 @@ use Rattle.tree_node.specs.declared.version.TreeVersion.{TreeVersion}
 use Rattle.wire_frames.specs.declared.message.Message.{Message}
 use Rattle.wire_frames.specs.declared.message.Message.TheVariants as messages
 use Rattle.step_bounds.specs.Reached.{unanswered}
+use Rattle.step_bounds.proofs.Counts.{late_calls}
 use Rattle.step_bounds.proofs.FittingRows.{Needs, NamesFit, safe_fits, SafeRow, safe_21, safe_22, safe_after_put, safe_23, stopped_none, untrusted_none, Fits, phase_row_fits, aged_fits, received_fits, asked_fits}
-
--- the calls of a leader that steps down in a tick
-pub late_calls : (late : Bool) (a b : Leader × LeadOut) → late ≡ true → (if late then a else b).0.table.calls ≡ a.0.table.calls
-late_calls true a b is = refl
-late_calls false a b is = absurd cc
 
 -- ## What a part of a step keeps
 

@@ -3,3 +3,5 @@ pub mod Resting
 pub mod Limits
 pub mod Changing
 pub mod Answering
+pub mod Telling
+pub mod Promising
