@@ -6,6 +6,7 @@ use Rattle.disk_runs.proofs.Running.{run_as_maps}
 use Rattle.disk_runs.specs.Memory.{StandsFor, StandsOpen, RunsInMemory, RunAsMaps}
 use Rattle.ens_base.specs.Lists.{◌∈◌}
 use Rattle.ens_base.specs.PeerSet.{holds}
+use Rattle.life_refinement.proofs.RealTime.{answers_append}
 use Rattle.peer_fact.specs.declared.saved.SavedFact.{SavedFact}
 use Rattle.peer_lives.specs.Moments.{Found, stores_found, down_on, after, answers_in}
 use Rattle.peer_lives.specs.Premises.{IsOneProcess, FactSurvives, IsFromFrames, IsRunning, IsDown, kept_by, node_of}
@@ -34,11 +35,11 @@ use Rattle.group_lives.specs.Acts.{Act, Begins, Does, Ends, Life, actor, and_dee
 use Rattle.group_lives.specs.Joined.{fact_on_disk}
 use Rattle.group_lives.specs.Lives.{AreLater}
 use Rattle.group_lives.proofs.Events.{KeepsLimits, from_frames, keeps_limits}
-use Rattle.group_lives.proofs.Outputs.{answers_append, answers_printed, posted_sent}
+use Rattle.group_lives.proofs.Outputs.{answers_printed, posted_sent}
 use Rattle.group_lives.proofs.Places.{own_head, set_get, set_other, set_twice}
 
 -- two facts are one if they are told alike
-kept_same : (a b : Option SavedFact) → kept_of a ≡ kept_of b → a ≡ b
+pub kept_same : (a b : Option SavedFact) → kept_of a ≡ kept_of b → a ≡ b
 kept_same None None same = refl
 kept_same None (Some b) same = absurd (none-some _ same)
 kept_same (Some a) None same = absurd (none-some _ (sym same))

@@ -1,16 +1,16 @@
 -- Processes that are joined are a sound group.
-use Rattle.std.proofs.Common.{◌≡◌, ◌<◌, ◌≤◌, ◌^◌, ◌+◌, ◌-◌, ◌++◌, ℕ, suc, List, [], ◌∷◌, length, map, Option, Some, arith, append-nil, refl, sym, ap, ◌∙◌, subst, inl, inr}
+use Rattle.std.proofs.Common.{◌≡◌, ◌<◌, ◌≤◌, ◌^◌, ◌+◌, ◌-◌, ◌++◌, ℕ, suc, List, [], ◌∷◌, length, map, Option, None, Some, arith, append-nil, refl, sym, ap, ◌∙◌, subst, inl, inr}
 use Rattle.std.proofs.lemmas.List.{append_assoc, length-map}
 use Rattle.disk_runs.proofs.Running.{run_as_maps}
 use Rattle.disk_runs.specs.Memory.{StandsFor, RunsInMemory}
 use Rattle.ens_base.specs.Lists.{◌∈◌}
 use Rattle.life_refinement.proofs.Groups.{group_runs, group_legal}
+use Rattle.life_refinement.proofs.RealTime.{next_is}
 use Rattle.life_refinement.specs.Laws.{IsRunOfProtocol}
-use Rattle.peer_lives.specs.Moments.{Takes, Found, stores_found, after, run_on, opening_of, calls_of, answers_in}
+use Rattle.peer_lives.specs.Moments.{Takes, after, answers_in, born_on, calls_of, opening_of, run_on, stores_found}
 use Rattle.peer_lives.specs.Premises.{Always, IsOfPeers, IsOneProcess, FactSurvives, WasSent, IsFromFrames, node_of}
-use Rattle.peer_lives.specs.Witness.{nothing_found}
 use Rattle.peer_plan.specs.Starts.{start_of}
-use Rattle.peer_serve.specs.DiskPeers.{OnDisks, disks_do, disks_refuse}
+use Rattle.peer_serve.specs.DiskPeers.{disks_do, disks_refuse}
 use Rattle.peer_serve.specs.Starting.{served_mode}
 use Rattle.peer_state.specs.declared.event.Event.{Event}
 use Rattle.peer_state.specs.declared.event.Event.TheVariants as events
@@ -19,20 +19,20 @@ use Rattle.register_model.specs.Histories.{IsLegal}
 use Rattle.register_model.specs.Orders.{order}
 use Rattle.register_model.specs.declared.answer.Answer.{Answer}
 use Rattle.register_model.specs.declared.note.Note.{Note}
-use Rattle.schedule_text.specs.declared.form.Form.TheVariants.{Three}
 use Rattle.schedule_words.specs.Spelling.{IsAmong}
 use Rattle.step_plans.specs.Plans.{nothing}
 use Rattle.wire_frames.specs.declared.frame.Frame.{Frame}
-use Rattle.world_spec.specs.HeldStores.{Ended, empty_stores}
-use Rattle.world_spec.specs.Nodes.{Node, opening_node, taken_of}
-use Rattle.world_spec.specs.Runs.{Run, next_event, opening_mode, place_of}
-use Rattle.group_lives.specs.Acts.{Act, Begins, Does, Ends, Execution, Life, acts_of, actor, answers_at, answers_from, frames_by, group_of, moment_of, notes_of, noted_by, own_acts, sent_by}
-use Rattle.group_lives.specs.Joined.{ArePutOut, AreOneGroup, AreOnDisks, IsAmongSent, IsLinearizable, WasPutOut, ProcessesAreOneGroup, ProcessesRefine, ProcessesAreLinearizable}
+use Rattle.world_spec.specs.HeldStores.{Ended}
+use Rattle.world_spec.specs.Nodes.{Node, taken_of}
+use Rattle.world_spec.specs.Runs.{Run, next_event}
+use Rattle.group_lives.specs.Acts.{Act, Begins, Does, Ends, Execution, Life, acts_of, actor, answers_at, answers_from, first_found, frames_by, group_of, moment_of, notes_of, noted_by, own_acts, sent_by}
+use Rattle.group_lives.specs.Joined.{ArePutOut, AreOneGroup, AreOnDisks, IsAmongSent, IsLinearizable, WasPutOut, ProcessesAreOneGroup, ProcessesAreLinearizable, ProcessesKeepTime, ProcessesRefine}
 use Rattle.group_lives.specs.Lives.{AreLives}
 use Rattle.group_lives.specs.Joined.{fact_on_disk}
 use Rattle.group_lives.proofs.Acting.{Goes, IsBefore, IsOn, goes}
 use Rattle.group_lives.proofs.Events.{keeps_limits}
-use Rattle.group_lives.proofs.Places.{get_replicate}
+use Rattle.group_lives.proofs.Places.{get_born}
+use Rattle.group_lives.proofs.Seeing.{keeps_time}
 
 -- ## One moment after another
 
@@ -47,9 +47,6 @@ was_sent : (w : Run) (a : Act) → WasPutOut w.mail.sent a → WasSent w (moment
 was_sent w (Begins p found) is = tt
 was_sent w (Does p d) is = sent_event w p d.event is
 was_sent w (Ends p) is = tt
-
-next_is : (m n : ℕ) → m ≡ n → n < 2 ^ 64 - 1 → next_event m ≡ n + 1
-next_is m n same below = omega arith
 
 -- the premises hold of each of these acts, and the world puts out what they did; the first has the number after this one
 record GoAll (acts : List Act) (w : Run) (number peers : ℕ) : Type 0 where
@@ -112,14 +109,12 @@ module _ {D : Type 0} (seen : D → Option (List ℕ)) (faults : D → ℕ) wher
     abbrev Lives : ℕ → List Life → Type 0
     Lives p lives = AreLives (disks_do seen faults) (disks_refuse seen faults) (StandsFor seen) fact_on_disk view p lives
 
-    -- disks on which nothing is found are empty stores
-    empty : (s : OnDisks D) (found : Found) → found ≡ nothing_found → StandsFor seen s (stores_found found) → StandsFor seen s empty_stores
-    empty s found none stands = bare (subst (λ (f : Found). StandsFor seen s (stores_found f)) none stands)
-      where
-        bare : StandsFor seen s (stores_found nothing_found) → StandsFor seen s empty_stores
-        bare is = record { objects = is.objects; nodes = is.nodes; fact = is.fact; none = record { facts = refl; tree = refl; backend = refl } }
+    -- the first process of a peer found no fact
+    first_bare : (p : ℕ) (lives : List Life) → Lives p lives → (first_found lives).fact ≡ None
+    first_bare p [] lived = refl
+    first_bare p (l ∷ later) lived = lived.0
 
-    first_on : (p : ℕ) (lives : List Life) (own : List Act) (o : Option Node) → Lives p lives → own ≡ acts_of p lives → o ≡ Some (opening_node (opening_mode Three) view) → IsOn seen faults peers small view p o own
+    first_on : (p : ℕ) (lives : List Life) (own : List Act) (o : Option Node) → Lives p lives → own ≡ acts_of p lives → o ≡ Some (born_on view (first_found lives)) → IsOn seen faults peers small view p o own
     first_on p [] own o lived is at = inl is
     first_on p (l ∷ later) own o lived is at = inr (inl (record {
       state = lived.1.first;
@@ -137,8 +132,8 @@ module _ {D : Type 0} (seen : D → Option (List ℕ)) (faults : D → ℕ) wher
       acts = is;
     }))
       where
-        so : RunsInMemory seen (start_of served_mode view) empty_stores [] [] lived.1.first nothing lived.1.started []
-        so = (run_as_maps seen faults).starts served_mode view lived.1.opened lived.1.started empty_stores [] [] lived.1.first nothing (empty lived.1.opened l.found lived.0 lived.1.finds) lived.1.starts
+        so : RunsInMemory seen (start_of served_mode view) (stores_found l.found) [] [] lived.1.first nothing lived.1.started []
+        so = (run_as_maps seen faults).starts served_mode view lived.1.opened lived.1.started (stores_found l.found) [] [] lived.1.first nothing lived.1.finds lived.1.starts
 
   module _ (e : Execution) (joined : AreOnDisks seen faults e) where
     opens : IsBefore seen faults e.peers joined.few_peers e.view (opening_of (group_of e)) e.acts
@@ -147,11 +142,8 @@ module _ {D : Type 0} (seen : D → Option (List ℕ)) (faults : D → ℕ) wher
       sealing = refl;
       tree = refl;
       each = λ q among. first_on e.peers joined.few_peers e.view q (e.lives q) (own_acts q e.acts) (node_of (opening_of (group_of e)) q) (joined.lived q among) (joined.in_order q among)
-          (get_replicate e.peers (place_of q) (opening_node (opening_mode Three) e.view) (inside q among.first among.last));
+          (get_born (group_of e).first e.view e.peers q among);
     }
-      where
-        inside : (q : ℕ) → 1 ≤ q → q ≤ e.peers → q - 1 < e.peers
-        inside q first last = omega arith
 
     all : GoAll e.acts (opening_of (group_of e)) 0 e.peers
     all = go_all e.peers joined.few_peers e.view e.acts (opening_of (group_of e)) 0 [] refl (few (length e.acts) joined.few_acts) refl joined.of_peers joined.messages_were_sent opens
@@ -166,6 +158,7 @@ module _ {D : Type 0} (seen : D → Option (List ℕ)) (faults : D → ℕ) wher
         is_view = joined.is_view;
         few_moments = subst (λ (n : ℕ). n < 2 ^ 32) (sym (length-map e.acts moment_of)) joined.few_acts;
         of_peers = all.of_peers;
+        first_without_fact = λ p among. first_bare e.peers joined.few_peers e.view p (e.lives p) (joined.lived p among);
         one_process = all.one;
         facts_survive = all.facts;
         messages_were_sent = all.messages;
@@ -193,3 +186,6 @@ module _ {D : Type 0} (seen : D → Option (List ℕ)) (faults : D → ℕ) wher
 
   pub linearizable : ProcessesAreLinearizable seen faults
   linearizable = is_legal
+
+  pub keep_time : ProcessesKeepTime seen faults
+  keep_time e joined = keeps_time e (is_legal e joined)

@@ -2,7 +2,9 @@ pub mod Places
 pub mod Events
 pub mod Outputs
 pub mod Acting
+pub mod Seeing
 pub mod Joining
 pub mod Keeping
 pub mod Serving
 pub mod Lone
+pub mod Alone

@@ -1,21 +1,21 @@
 -- A lone peer that lives twice over stores in memory meets the premises, and some executions break one.
-use Rattle.std.proofs.Common.{◌≡◌, ◌<◌, ◌≤◌, ◌++◌, ℕ, zero, suc, List, [], ◌∷◌, length, Option, None, Result, Ok, Err, arith, lit<, lit≤, refl, sym, ap, subst, ◌∙◌, inl, inr}
-use Rattle.std.specs.Prelude.{slice_index_or}
+use Rattle.std.proofs.Common.{◌≡◌, ◌≤◌, ◌++◌, ℕ, List, [], ◌∷◌, Option, None, Result, Ok, Err, arith, lit<, lit≤, refl, sym, ap, subst, ◌∙◌, inl, inr}
 use Rattle.std.proofs.lemmas.Option.{none-some}
 use Rattle.ens_base.specs.Lists.{◌∈◌}
-use Rattle.ens_base.specs.View.{IsView}
 use Rattle.held_stores.specs.Walks.{walk}
 use Rattle.peer_lives.specs.Moments.{Found, run_of, stores_found}
-use Rattle.peer_lives.specs.Witness.{nothing_found}
+use Rattle.peer_lives.proofs.Lone.{lone_view, older_breaks, one_string}
+use Rattle.peer_lives.specs.Witness.{StartsOnOlder, lone_opening, nothing_found, remains_found}
 use Rattle.peer_plan.specs.Drives.{driven, most_turns, step_of}
 use Rattle.peer_plan.specs.Starts.{start_of}
 use Rattle.peer_serve.specs.Starting.{served_mode}
 use Rattle.peer_state.specs.declared.event.Event.{Event}
 use Rattle.peer_state.specs.declared.event.Event.TheVariants.{Tick}
 use Rattle.peer_state.specs.declared.state.State.{State}
+use Rattle.register_model.specs.declared.answer.Answer.{Answer}
+use Rattle.register_model.specs.declared.call.Call.{Call}
 use Rattle.register_model.specs.declared.note.Note.{Note}
-use Rattle.schedule_words.proofs.Ascending.{IsPeer-members, IsStrictlyIncreasing-members}
-use Rattle.schedule_words.specs.Spelling.{AscendFrom, IsAmong}
+use Rattle.schedule_words.specs.Spelling.{IsAmong}
 use Rattle.step_plans.specs.Calls.{AnswerOf}
 use Rattle.step_plans.specs.Plans.{Plan, Done, Say, Ask, Ending, Finished, Stopped, Out, Runs, nothing}
 use Rattle.step_plans.specs.declared.error.PeerError.{PeerError}
@@ -24,10 +24,11 @@ use Rattle.turn_spec.specs.Deeds.{Deed, events_in}
 use Rattle.wire_frames.specs.declared.message.Message.{Message}
 use Rattle.world_spec.specs.HeldStores.{Ended, HasNoClash, Held, answered, either, held_with, run}
 use Rattle.world_stores.specs.Facts.{kept_of}
-use Rattle.group_lives.specs.Acts.{Act, Begins, Life, acts_of, actor, and_deeds, group_of, later_acts, own_acts}
-use Rattle.group_lives.specs.Joined.{AreOnDisks}
+use Rattle.group_lives.proofs.Joining.{linearizable, one_group}
+use Rattle.group_lives.specs.Acts.{Act, Begins, Execution, Life, acts_of, actor, and_deeds, group_of, later_acts, own_acts}
+use Rattle.group_lives.specs.Joined.{AreOnDisks, WereGiven}
 use Rattle.group_lives.specs.Lives.{AreLives, HasLived, IsTickOrBytes}
-use Rattle.group_lives.specs.Witness.{AreInMemory, a_lost_fact, an_unsent_message, fact_in_memory, found_again, memory_does, memory_holds, memory_refuses, opened_world, started_world, tick_in, two_lives, two_processes}
+use Rattle.group_lives.specs.Witness.{AreInMemory, IsInvented, a_lost_fact, an_unsent_message, fact_in_memory, found_again, memory_does, memory_holds, memory_refuses, started_world, tick_in, two_lives, two_processes}
 
 -- ## Runs over stores in memory
 
@@ -86,9 +87,9 @@ ticks_once found d x y s t tick start step = record {
     by event (inl same) = inl (same ∙ tick)
     by event (inr none) = absurd none
 
-first_life : Lived (record { found = nothing_found; deeds = tick_in opened_world ∷ [] })
+first_life : Lived (record { found = remains_found; deeds = tick_in lone_opening ∷ [] })
 unfolding walk driven most_turns form_of
-first_life = ticks_once nothing_found (tick_in opened_world) _ _ _ _ refl refl refl
+first_life = ticks_once remains_found (tick_in lone_opening) _ _ _ _ refl refl refl
 
 second_life : Lived (record { found = found_again; deeds = tick_in started_world ∷ [] })
 unfolding walk driven most_turns form_of
@@ -101,31 +102,17 @@ fact_survives = refl
 abbrev Lives : ℕ → List Life → Type 0
 Lives p lives = AreLives memory_does memory_refuses memory_holds fact_in_memory (1 ∷ []) p lives
 
-both_lives : Lives 1 (record { found = nothing_found; deeds = tick_in opened_world ∷ [] } ∷ record { found = found_again; deeds = tick_in started_world ∷ [] } ∷ [])
+both_lives : Lives 1 (record { found = remains_found; deeds = tick_in lone_opening ∷ [] } ∷ record { found = found_again; deeds = tick_in started_world ∷ [] } ∷ [])
 both_lives = (refl, first_life, (fact_survives, second_life, tt))
 
 -- ## The premises are met
-
--- one string has no clash
-only : (x y : List ℕ) (k : ℕ) → k < length (x ∷ []) → slice_index_or (x ∷ []) k y ≡ y → y ≡ x
-only x y zero within is = sym is
-only x y (suc k) within is = absurd (omega (arith, within))
-
-one_string : (x : List ℕ) → HasNoClash (x ∷ [])
-one_string x a b in_a in_b same = only x a in_a.0 in_a.1 in_a.2 ∙ sym (only x b in_b.0 in_b.1 in_b.2)
 
 no_clash : HasNoClash (run_of (group_of two_lives)).hashed
 unfolding walk driven most_turns form_of
 no_clash = one_string _
 
-members : AscendFrom 1 1 (1 ∷ [])
-members = (lit≤ tt, lit≤ tt, tt)
-
-lone_view : IsView (1 ∷ [])
-lone_view = record { size = (lit≤ tt, lit≤ tt); peers = IsPeer-members 1 1 (1 ∷ []) (lit≤ tt) (lit≤ tt) members; ascends = IsStrictlyIncreasing-members 1 1 (1 ∷ []) members }
-
 -- the lone peer is peer 1
-is_one : (p : ℕ) → IsAmong 1 p → 1 ≡ p
+pub is_one : (p : ℕ) → IsAmong 1 p → 1 ≡ p
 is_one p among = first_last among.first among.last
   where
     first_last : 1 ≤ p → p ≤ 1 → 1 ≡ p
@@ -189,3 +176,9 @@ module _ {D : Type 0} (seen : D → Option (List ℕ)) (faults : D → ℕ) wher
 
   pub second_breaks : (lives : List Life) (found : Found) → ¬ AreOnDisks seen faults (two_processes lives found)
   second_breaks lives found joined = no_start 1 lives found [] (joined.in_order 1 (record { first = lit≤ tt; last = lit≤ tt }))
+
+  pub older_fails : (e : Execution) → StartsOnOlder (group_of e) → ¬ AreOnDisks seen faults e
+  older_fails e starts joined = older_breaks (group_of e) starts (one_group seen faults e joined).sound
+
+  pub invented_breaks : (e : Execution) → AreOnDisks seen faults e → (c : Call) (a : Answer) → IsInvented e c a → ¬ WereGiven e (a ∷ [])
+  invented_breaks e joined c a invented given = invented.nowhere ((linearizable seen faults e joined (a ∷ []) given c.key).completed c a invented.came (inl refl) invented.answers refl invented.completes)

@@ -1,6 +1,9 @@
 -- Places in lists, and the acts of one peer.
-use Rattle.std.proofs.Common.{◌≡◌, ◌<◌, ℕ, zero, suc, Bool, eq-eqb, if◌then◌else◌, List, [], ◌∷◌, replicate, Some, slice_get, slice_set, arith, refl, ap}
+use Rattle.std.proofs.Common.{◌≡◌, ◌∙◌, ◌+◌, ◌<◌, ◌≤◌, ℕ, zero, suc, Bool, eq-eqb, if◌then◌else◌, List, [], ◌∷◌, Some, slice_get, slice_set, arith, refl, ap}
 use Rattle.std.proofs.lemmas.Option.{none-some}
+use Rattle.peer_lives.specs.Moments.{Found, born, born_on}
+use Rattle.schedule_words.specs.Spelling.{IsAmong}
+use Rattle.world_spec.specs.Runs.{place_of}
 use Rattle.group_lives.specs.Acts.{Act, actor, own_acts}
 
 -- what was set at a place is there, and other places keep what they have
@@ -22,10 +25,26 @@ set_twice [] i y z = refl
 set_twice (x ∷ xs) zero y z = refl
 set_twice (x ∷ xs) (suc i) y z = ap (λ rest. x ∷ rest) (set_twice xs i y z)
 
-pub get_replicate : {A : Type 0} (n i : ℕ) (x : A) → i < n → slice_get (replicate n x) i ≡ Some x
-get_replicate zero i x below = absurd (omega (arith, below))
-get_replicate (suc n) zero x below = refl
-get_replicate (suc n) (suc i) x below = get_replicate n i x (omega (arith, below))
+-- each peer was born on what its first process found
+born_from : (first : ℕ → Found) (view : List ℕ) (p n i : ℕ) → i < n → slice_get (born first view p n) i ≡ Some (born_on view (first (p + i)))
+born_from first view p zero i below = absurd (omega (arith, below))
+born_from first view p (suc n) zero below = ap (λ (q : ℕ). Some (born_on view (first q))) (here p)
+  where
+    here : (p : ℕ) → p ≡ p + 0
+    here p = omega arith
+born_from first view p (suc n) (suc i) below = born_from first view (suc p) n i (omega (arith, below)) ∙ ap (λ (q : ℕ). Some (born_on view (first q))) (next p i)
+  where
+    next : (p i : ℕ) → suc p + i ≡ p + suc i
+    next p i = omega arith
+
+pub get_born : (first : ℕ → Found) (view : List ℕ) (peers q : ℕ) → IsAmong peers q → slice_get (born first view 1 peers) (place_of q) ≡ Some (born_on view (first q))
+get_born first view peers q among = born_from first view 1 peers (place_of q) (inside q among.first among.last) ∙ ap (λ (p : ℕ). Some (born_on view (first p))) (number q among.first)
+  where
+    inside : (q : ℕ) → 1 ≤ q → q ≤ peers → place_of q < peers
+    inside q first last = omega arith
+
+    number : (q : ℕ) → 1 ≤ q → 1 + place_of q ≡ q
+    number q first = omega arith
 
 -- the next act of a peer that acts is this one
 pub own_head : (a : Act) (acts : List Act) → own_acts (actor a) (a ∷ acts) ≡ a ∷ own_acts (actor a) acts

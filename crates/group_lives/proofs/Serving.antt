@@ -67,7 +67,7 @@ loaded None kept before now is = is
 loaded (Some f) kept before now is = is
 
 -- the events of some steps are events of all
-events_of_some : (done later : List Deed) (event : Event) → event ∈ events_in done → event ∈ events_in (done ++ later)
+pub events_of_some : (done later : List Deed) (event : Event) → event ∈ events_in done → event ∈ events_in (done ++ later)
 events_of_some done later event here = subst (λ (events : List Event). event ∈ events) (sym (map-append (λ (d : Deed). d.event) done later)) (in_left (events_in done) (events_in later) event here)
 
 module _ {D : Type 0} (seen : D → Option (List ℕ)) (faults : D → ℕ) where

@@ -1,6 +1,7 @@
 -- What the processes of some peers do, in one order, and what their steps put out.
 use Rattle.std.specs.Prelude.{◌==◌, ◌+◌, ◌++◌, if◌then◌else◌, ℕ, List, [], ◌∷◌, map}
 use Rattle.peer_lives.specs.Moments.{Found, Group, Moment, Starts, Takes, IsCutOff, peer_of}
+use Rattle.peer_lives.specs.Witness.{nothing_found}
 use Rattle.register_model.specs.declared.answer.Answer.{Answer}
 use Rattle.register_model.specs.declared.note.Note.{Note}
 use Rattle.step_plans.specs.LeaderWords.{AnswerOut}
@@ -41,8 +42,8 @@ abbrev pub later_acts : ℕ → List Life → List Act
 later_acts p [] = []
 later_acts p (l ∷ ls) = Begins p l.found ∷ and_deeds p l.deeds (later_acts p ls)
 
--- The acts of all lives of a peer. Its first start is none of them: it finds empty disks and puts nothing
--- out, so it may as well come before all acts.
+-- The acts of all lives of a peer. Its first start is none of them: it finds no fact and puts nothing out, so
+-- it may as well come before all acts.
 abbrev pub acts_of : ℕ → List Life → List Act
 acts_of p [] = []
 acts_of p (l ∷ ls) = and_deeds p l.deeds (later_acts p ls)
@@ -54,8 +55,13 @@ moment_of (Begins p found) = Starts p found
 moment_of (Does p d) = Takes p d.event
 moment_of (Ends p) = IsCutOff p
 
+-- what the first process of a peer found; nothing, if there was none
+abbrev pub first_found : List Life → Found
+first_found [] = nothing_found
+first_found (l ∷ ls) = l.found
+
 abbrev pub group_of : Execution → Group
-group_of e = record { peers = e.peers; view = e.view; moments = map moment_of e.acts }
+group_of e = record { peers = e.peers; view = e.view; first = λ p. first_found (e.lives p); moments = map moment_of e.acts }
 
 -- the peer of an act
 abbrev pub actor : Act → ℕ

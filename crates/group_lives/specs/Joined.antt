@@ -21,6 +21,7 @@ use Rattle.step_plans.specs.declared.error.PeerError.{PeerError}
 use Rattle.wire_frames.specs.declared.frame.Frame.{Frame}
 use Rattle.world_spec.specs.HeldStores.{HasNoClash, HeldStores}
 use Rattle.group_lives.specs.Acts.{Act, Does, Execution, acts_of, actor, answers_from, frames_by, group_of, notes_of, own_acts, sent_by}
+use Rattle.group_lives.specs.Clients.{ClientsKeepTime}
 use Rattle.group_lives.specs.Lives.{AreLives, FactRead}
 
 -- the message is among these frames, from the peer that it names as its sender
@@ -61,10 +62,14 @@ pub record AreOneGroup (e : Execution) : Type 0 where
   pub answers : answers_of (group_of e) ≡ answers_from 1 e.acts
   pub notes : (run_of (group_of e)).notes ≡ notes_of e.acts
 
+-- these answers were given
+abbrev pub WereGiven : Execution → List Answer → Type 0
+WereGiven e heard = (a : Answer) → a ∈ heard → a ∈ answers_from 1 e.acts
+
 -- of each key, the order that follows from the notes is a legal history of the calls that came and of any
 -- of the answers that were given
 abbrev pub IsLinearizable : Execution → Type 0
-IsLinearizable e = (heard : List Answer) → ((a : Answer) → a ∈ heard → a ∈ answers_from 1 e.acts) → (key : List ℕ) → IsLegal (calls_of (group_of e)) heard key (order (notes_of e.acts) key)
+IsLinearizable e = (heard : List Answer) → WereGiven e heard → (key : List ℕ) → IsLegal (calls_of (group_of e)) heard key (order (notes_of e.acts) key)
 
 -- ## On disks
 
@@ -84,3 +89,6 @@ ProcessesRefine seen faults = (e : Execution) → AreOnDisks seen faults e → I
 
 abbrev pub ProcessesAreLinearizable : {D : Type 0} → (D → Option (List ℕ)) → (D → ℕ) → Type 0
 ProcessesAreLinearizable seen faults = (e : Execution) → AreOnDisks seen faults e → IsLinearizable e
+
+abbrev pub ProcessesKeepTime : {D : Type 0} → (D → Option (List ℕ)) → (D → ℕ) → Type 0
+ProcessesKeepTime seen faults = (e : Execution) → AreOnDisks seen faults e → ClientsKeepTime e

@@ -1,12 +1,11 @@
 -- The lives of the processes of a peer, one after another on the same disks.
-use Rattle.std.specs.Prelude.{◌≡◌, ◌⊎◌, ℕ, List, [], ◌∷◌, Option, Some, Result}
+use Rattle.std.specs.Prelude.{◌≡◌, ◌⊎◌, ℕ, List, [], ◌∷◌, Option, None, Some, Result}
 use Rattle.ens_base.specs.Limits.{IsBytes}
 use Rattle.ens_base.specs.Lists.{◌∈◌}
 use Rattle.ens_base.specs.declared.peer_words.PeerWords.{PeerWords}
 use Rattle.peer_fact.specs.declared.error.FactError.{FactError}
 use Rattle.peer_fact.specs.declared.saved.SavedFact.{SavedFact}
 use Rattle.peer_lives.specs.Moments.{stores_found}
-use Rattle.peer_lives.specs.Witness.{nothing_found}
 use Rattle.peer_plan.specs.Starts.{start_of}
 use Rattle.peer_serve.specs.Starting.{served_mode}
 use Rattle.peer_state.specs.declared.event.Event.{Event}
@@ -52,7 +51,8 @@ module _ {P : Type 0} (does : P → (call : Call) → AnswerOf call → P → Ty
   AreLater fact [] = Unit {0}
   AreLater fact (l ∷ ls) = (kept_of l.found.fact ≡ fact) × (lived : HasLived l) × AreLater (fact_on lived.left) ls
 
-  -- the first life begins on empty disks
+  -- The first life begins without a fact. A process that was cut off before it saved one may have come before,
+  -- and left any nodes and objects: it sent nothing, and is none of the lives.
   abbrev pub AreLives : List Life → Type 0
   AreLives [] = Unit {0}
-  AreLives (l ∷ ls) = (l.found ≡ nothing_found) × (lived : HasLived l) × AreLater (fact_on lived.left) ls
+  AreLives (l ∷ ls) = (l.found.fact ≡ None) × (lived : HasLived l) × AreLater (fact_on lived.left) ls

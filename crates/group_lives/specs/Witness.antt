@@ -1,31 +1,35 @@
 -- A lone peer that lives twice over stores in memory, and executions that break a premise.
 use Rattle.std.specs.Prelude.{◌≡◌, ℕ, List, [], ◌∷◌, Option, None, Some, Ok, Err}
-use Rattle.peer_lives.specs.Moments.{Found, Starts, run_on}
+use Rattle.ens_base.specs.Lists.{◌∈◌}
+use Rattle.peer_lives.specs.Moments.{Found, Starts, calls_of, run_on}
 use Rattle.peer_lives.specs.Premises.{node_of}
-use Rattle.peer_lives.specs.Witness.{first_life, nothing_found, without_nodes}
+use Rattle.peer_lives.specs.Witness.{first_life, lone_opening, nothing_found, remains_found, without_nodes}
 use Rattle.peer_state.specs.declared.event.Event.TheVariants.{Tick, Deliver}
+use Rattle.register_model.specs.Histories.{IsDone}
+use Rattle.register_model.specs.Orders.{order}
+use Rattle.register_model.specs.declared.answer.Answer.{Answer}
+use Rattle.register_model.specs.declared.call.Call.{Call}
 use Rattle.register_model.specs.declared.note.Note.{Note}
-use Rattle.schedule_text.specs.declared.form.Form.TheVariants.{Three}
-use Rattle.step_plans.specs.Calls.{Call, AnswerOf}
+use Rattle.step_plans.specs.Calls.{Call as StoreCall, AnswerOf}
 use Rattle.step_plans.specs.Plans.{Out, nothing}
 use Rattle.step_plans.specs.declared.error.PeerError.{PeerError}
 use Rattle.turn_spec.specs.Deeds.{Deed}
 use Rattle.wire_frames.specs.declared.message.Message.{Message}
 use Rattle.world_spec.specs.HeldStores.{Held, HeldStores, answered, held_with}
 use Rattle.world_spec.specs.Nodes.{Node, taken}
-use Rattle.world_spec.specs.Runs.{Run, opening_run}
+use Rattle.world_spec.specs.Runs.{Run}
 use Rattle.world_stores.specs.Facts.{kept_of}
-use Rattle.group_lives.specs.Acts.{Act, Begins, Does, Ends, Execution, Life}
+use Rattle.group_lives.specs.Acts.{Act, Begins, Does, Ends, Execution, Life, group_of, notes_of}
 use Rattle.group_lives.specs.Joined.{AreJoined}
 use Rattle.group_lives.specs.Lives.{FactRead}
 
 -- ## Stores in memory
 
 -- they answer a call so, or refuse it so
-abbrev pub memory_does : Held → (call : Call) → AnswerOf call → Held → Type 0
+abbrev pub memory_does : Held → (call : StoreCall) → AnswerOf call → Held → Type 0
 memory_does s call answer t = ((answered call s).result ≡ Ok answer) × (t ≡ (answered call s).held)
 
-abbrev pub memory_refuses : Held → Call → PeerError → Held → Type 0
+abbrev pub memory_refuses : Held → StoreCall → PeerError → Held → Type 0
 memory_refuses s call error t = ((answered call s).result ≡ Err error) × (t ≡ (answered call s).held)
 
 -- they are these stores, and no string was hashed
@@ -57,13 +61,10 @@ ticks_notes (Some node) = (taken 1 Tick node).notes
 abbrev pub tick_in : Run → Deed
 tick_in w = record { event = Tick; out = ticks_out (node_of w 1); notes = ticks_notes (node_of w 1) }
 
--- at the opening, after the first life, and after the second start, on a disk of facts that survived and two
--- that did not
-abbrev pub opened_world : Run
-opened_world = opening_run Three 1 (1 ∷ [])
-
+-- after the first life, which began over what a process left that had saved no fact; and after the second start,
+-- on a disk of facts that survived and two that did not
 abbrev pub ended_world : Run
-ended_world = run_on first_life opened_world
+ended_world = run_on first_life lone_opening
 
 abbrev pub found_again : Found
 found_again = without_nodes ended_world
@@ -73,8 +74,8 @@ started_world = run_on (Starts 1 found_again ∷ []) ended_world
 
 -- a tick in each of two lives
 abbrev pub two_lives : Execution
-two_lives = lone (record { found = nothing_found; deeds = tick_in opened_world ∷ [] } ∷ record { found = found_again; deeds = tick_in started_world ∷ [] } ∷ [])
-    (Does 1 (tick_in opened_world) ∷ Ends 1 ∷ Begins 1 found_again ∷ Does 1 (tick_in started_world) ∷ Ends 1 ∷ [])
+two_lives = lone (record { found = remains_found; deeds = tick_in lone_opening ∷ [] } ∷ record { found = found_again; deeds = tick_in started_world ∷ [] } ∷ [])
+    (Does 1 (tick_in lone_opening) ∷ Ends 1 ∷ Begins 1 found_again ∷ Does 1 (tick_in started_world) ∷ Ends 1 ∷ [])
 
 -- ## Broken premises
 
@@ -89,3 +90,10 @@ two_processes lives found = lone lives (Begins 1 found ∷ [])
 -- a process starts without the fact that the one before it saved
 abbrev pub a_lost_fact : Execution
 a_lost_fact = lone (record { found = nothing_found; deeds = [] } ∷ record { found = nothing_found; deeds = [] } ∷ []) (Ends 1 ∷ Begins 1 nothing_found ∷ Ends 1 ∷ [])
+
+-- an answer is heard that completes this call, and the call has no place in the history of its key
+pub record IsInvented (e : Execution) (c : Call) (a : Answer) : Type 0 where
+  pub came : c ∈ calls_of (group_of e)
+  pub answers : a.id ≡ c.id
+  pub completes : IsDone a.reply
+  pub nowhere : ¬ (c.id ∈ order (notes_of e.acts) c.key)

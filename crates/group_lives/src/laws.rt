@@ -1,9 +1,13 @@
-ghost use Rattle.std.specs.Prelude.{ℕ, List};
-ghost use Rattle.group_lives.specs.Acts.{Life};
-ghost use Rattle.group_lives.specs.Joined.{AreOnDisks, ProcessesAreLinearizable, ProcessesAreOneGroup, ProcessesRefine};
+ghost use Rattle.std.specs.Prelude.{ℕ, List, [], ◌∷◌};
+ghost use Rattle.group_lives.specs.Acts.{Execution, Life, group_of};
+ghost use Rattle.group_lives.specs.Alone.{ServedOnce, ServedTwice};
+ghost use Rattle.group_lives.specs.Joined.{AreOnDisks, ProcessesAreLinearizable, ProcessesAreOneGroup, ProcessesKeepTime, ProcessesRefine, WereGiven};
 ghost use Rattle.group_lives.specs.Served.{ServedLivesJoin};
-ghost use Rattle.group_lives.specs.Witness.{AreInMemory, a_lost_fact, an_unsent_message, two_lives, two_processes};
+ghost use Rattle.group_lives.specs.Witness.{AreInMemory, IsInvented, a_lost_fact, an_unsent_message, two_lives, two_processes};
 ghost use Rattle.peer_lives.specs.Moments.{Found};
+ghost use Rattle.peer_lives.specs.Witness.{StartsOnOlder};
+ghost use Rattle.register_model.specs.declared.answer.Answer.{Answer};
+ghost use Rattle.register_model.specs.declared.call.Call.{Call};
 ghost use Rattle.wire_frames.specs.declared.message.Message.{Message};
 
 use ens_outside::{Link, Ticker};
@@ -21,9 +25,11 @@ pub fn processes_refine_the_protocol<D: Disk>()
 {}
 
 /// And for every key the order that follows from what their steps noted is a legal history of the
-/// calls that came and of any of the answers that they gave: those that were heard, for one.
+/// calls that came and of any of the answers that they gave: those that were heard, for one. A call that
+/// was sent after a client had heard that another one was completed does not stand before that one.
 pub fn processes_are_linearizable<D: Disk>()
-    ensures { ProcessesAreLinearizable D.seen D.fault_count }
+    ensures legal { ProcessesAreLinearizable D.seen D.fault_count }
+    ensures in_time { ProcessesKeepTime D.seen D.fault_count }
 {}
 
 /// What `serve` promises of a peer, over disks that tell their bytes, is such a life: of what the disks
@@ -33,16 +39,28 @@ pub fn served_lives_may_be_joined<D: Disk, L: Link, T: Ticker>()
     ensures { ServedLivesJoin D.seen D.may_leave D.moment D.left_since D.fault_count L.sent L.given L.fault_count T.coming }
 {}
 
-/// The premises can be met: a lone peer takes a step and is cut off, and starts again on a disk of
-/// facts that survived and two empty disks. Its stores stand in memory.
+/// So the premises can be met on disks. If the only peer of an ensemble served, and perhaps a second time on
+/// what a crash left of its facts and on any nodes and objects, it meets all of them but two of which it
+/// cannot know: its clients repeat no id, and no two strings that it hashed have one MD5.
+pub fn a_lone_peer_may_serve_twice<D: Disk, L: Link, T: Ticker>()
+    ensures once { ServedOnce D.seen D.may_leave D.moment D.left_since D.fault_count L.sent L.given L.fault_count T.coming }
+    ensures twice { ServedTwice D.seen D.may_leave D.moment D.left_since D.fault_count L.sent L.given L.fault_count T.coming }
+{}
+
+/// The premises can be met: a lone peer starts over what a process left that had saved no fact, takes a
+/// step and is cut off, and starts again on a disk of facts that survived and two empty disks. Its stores
+/// stand in memory.
 pub fn a_lone_process_may_live_twice()
     ensures { AreInMemory two_lives }
 {}
 
 /// A message that comes without having been put out, a process that starts while another one of its
-/// peer runs, and a start without the fact that was saved: each breaks a premise.
+/// peer runs, a start without the fact that was saved or with an older one, and an answer that completes
+/// a call that has no place in its history: each breaks a premise.
 pub fn premises_can_be_broken<D: Disk>()
     ensures unsent { (lives : ℕ → List Life) (message : Message) → ¬ AreOnDisks D.seen D.fault_count (an_unsent_message lives message) }
     ensures second { (lives : List Life) (found : Found) → ¬ AreOnDisks D.seen D.fault_count (two_processes lives found) }
     ensures lost { ¬ AreInMemory a_lost_fact }
+    ensures older { (e : Execution) → StartsOnOlder (group_of e) → ¬ AreOnDisks D.seen D.fault_count e }
+    ensures invented { (e : Execution) → AreOnDisks D.seen D.fault_count e → (c : Call) (a : Answer) → IsInvented e c a → ¬ WereGiven e (a ∷ []) }
 {}

@@ -1,13 +1,11 @@
 -- A group of peers is a run of the abstract protocol, and its histories are legal.
 use Rattle.std.proofs.Common.{◌≡◌, ◌<◌, ◌^◌, ℕ, true, List, [], ◌∷◌, length, map, refl, sym, subst, inl, inr}
-use Rattle.std.proofs.lemmas.List.{length-replicate}
+use Rattle.abstract_protocol.specs.Book.{opening_book}
 use Rattle.abstract_protocol.specs.Protocol.{State, opening}
 use Rattle.call_refinement.proofs.Agreement.{is_safe}
-use Rattle.call_refinement.proofs.BookSteps.{opening_agrees}
+use Rattle.call_refinement.proofs.BookSteps.{alike_agrees, opening_agrees}
 use Rattle.call_refinement.proofs.Histories.{order_legal}
 use Rattle.call_refinement.proofs.LegalHistories.{legal_fewer}
-use Rattle.call_refinement.proofs.OpeningWorld.{opening_holds}
-use Rattle.call_refinement.proofs.WorldGrammar.{opening_intact}
 use Rattle.call_refinement.proofs.ScheduleLaws.{in_contains}
 use Rattle.call_refinement.specs.Lines as schedule
 use Rattle.ens_base.specs.Lists.{◌∈◌, AreDistinct}
@@ -23,8 +21,8 @@ use Rattle.schedule_text.specs.declared.form.Form.TheVariants.{Three}
 use Rattle.sync_laws.specs.Facts.{AreFirm}
 use Rattle.tree_refinement.specs.Trees.{AreFree}
 use Rattle.world_spec.proofs.Growth.{further_same}
-use Rattle.world_spec.specs.Nodes.{opening_node}
-use Rattle.world_spec.specs.Runs.{Run, opening_mode}
+use Rattle.world_spec.specs.Runs.{Run, opening_run}
+use Rattle.life_refinement.proofs.Births.{born_holds, born_intact, born_many}
 use Rattle.life_refinement.proofs.Lines.{lines_for, lines_many, calls_same, answers_same}
 use Rattle.life_refinement.proofs.Moments.{IsAt, all_over}
 use Rattle.life_refinement.specs.Laws.{lines_of, IsRunOfProtocol, AreLegal, WereGiven}
@@ -57,10 +55,10 @@ module _ (g : Group) (sound : IsSound g) where
   opens = record {
     agrees = record {
       state = opening g.view;
-      holds = record { steps = []; is = refl; holds = opening_holds Three g.view (lines_of g) g.peers strings refl sound.is_view (inl refl) };
-      agrees = opening_agrees Three g.peers g.view;
-      size = length-replicate g.peers (opening_node (opening_mode Three) g.view);
-      intact = opening_intact Three g.peers g.view;
+      holds = record { steps = []; is = refl; holds = born_holds g sound.first_without_fact (lines_of g) strings refl sound.is_view (inl refl) };
+      agrees = alike_agrees 0 [] (opening_run Three g.peers g.view) (opening_of g) opening_book refl refl refl (opening_agrees Three g.peers g.view);
+      size = born_many g.first g.view 1 g.peers;
+      intact = born_intact g sound.first_without_fact;
     };
     alive = refl;
   }

@@ -1,11 +1,12 @@
 -- What holds of a group of peers that meets its premises.
-use Rattle.std.specs.Prelude.{ℕ, true, List, [], ◌∷◌}
+use Rattle.std.specs.Prelude.{◌≡◌, ◌+◌, ℕ, true, List, [], ◌∷◌, ◌++◌, length}
 use Rattle.ens_base.specs.Lists.{◌∈◌}
 use Rattle.call_refinement.specs.Worlds.{HasRun}
-use Rattle.peer_lives.specs.Moments.{Group, run_of, calls_of, answers_of}
-use Rattle.register_model.specs.Histories.{IsLegal}
+use Rattle.peer_lives.specs.Moments.{Group, Moment, answers_in, answers_of, calls_from, calls_of, opening_of, run_of, run_on}
+use Rattle.register_model.specs.Histories.{IsDone, IsLegal, StandsBefore}
 use Rattle.register_model.specs.Orders.{order}
 use Rattle.register_model.specs.declared.answer.Answer.{Answer}
+use Rattle.register_model.specs.declared.call.Call.{Call}
 use Rattle.sync_laws.specs.Facts.{Lines}
 
 -- every peer has a seal, so each is firm, and one view votes
@@ -25,3 +26,8 @@ AreLegal g heard = (key : List ℕ) → IsLegal (calls_of g) heard key (order (r
 -- these answers were given
 abbrev pub WereGiven : Group → List Answer → Type 0
 WereGiven g heard = (a : Answer) → a ∈ heard → a ∈ answers_of g
+
+-- a call that was completed by an answer of the moments up to one stands before each call that came later
+abbrev pub KeepsRealTime : Group → Type 0
+KeepsRealTime g = (before later : List Moment) → g.moments ≡ before ++ later → (a : Answer) → a ∈ answers_in (run_on before (opening_of g)).printed → IsDone a.reply
+    → (c : Call) → c ∈ calls_from (1 + length before) later → (key : List ℕ) → StandsBefore (order (run_of g).notes key) a.id c.id

@@ -1,5 +1,5 @@
 ghost use Rattle.std.specs.Prelude.{List};
-ghost use Rattle.life_refinement.specs.Laws.{AreLegal, IsRunOfProtocol, WereGiven};
+ghost use Rattle.life_refinement.specs.Laws.{AreLegal, IsRunOfProtocol, KeepsRealTime, WereGiven};
 ghost use Rattle.peer_lives.specs.Moments.{Group};
 ghost use Rattle.peer_lives.specs.Premises.{IsSound};
 ghost use Rattle.register_model.specs.declared.answer.Answer.{Answer};
@@ -11,7 +11,9 @@ pub fn groups_refine_the_protocol()
 {}
 
 /// So for every key the order that follows from the notes is a legal history of the calls that came
-/// and of any of the answers that were given: those that were heard, for one.
+/// and of any of the answers that were given: those that were heard, for one. A call that was completed
+/// before another one came stands before it.
 pub fn groups_have_legal_histories()
-    ensures { (g : Group) → IsSound g → (heard : List Answer) → WereGiven g heard → AreLegal g heard }
+    ensures legal { (g : Group) → IsSound g → (heard : List Answer) → WereGiven g heard → AreLegal g heard }
+    ensures in_time { (g : Group) → IsSound g → KeepsRealTime g }
 {}

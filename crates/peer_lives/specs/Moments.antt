@@ -1,5 +1,5 @@
 -- What happens to a group of peers that run as processes of their own, moment by moment.
-use Rattle.std.specs.Prelude.{ℕ, ◌+◌, List, [], ◌∷◌, Option, None, Some}
+use Rattle.std.specs.Prelude.{ℕ, zero, suc, ◌+◌, List, [], ◌∷◌, ◌++◌, Option, None, Some}
 use Rattle.ens_outside.specs.Maps.{Entries}
 use Rattle.peer_fact.specs.declared.saved.SavedFact.{SavedFact}
 use Rattle.peer_state.specs.declared.event.Event.{Event}
@@ -11,8 +11,8 @@ use Rattle.register_model.specs.declared.printed.Printed.TheVariants as printed
 use Rattle.schedule_text.specs.declared.form.Form.TheVariants.{Three}
 use Rattle.tree_node.specs.declared.version.TreeVersion.TheVariants.{Two}
 use Rattle.world_spec.specs.HeldStores.{HeldStores}
-use Rattle.world_spec.specs.Nodes.{Node, Down, stopped}
-use Rattle.world_spec.specs.Runs.{Run, next_event, opening_run, stepped, changed, with_start}
+use Rattle.world_spec.specs.Nodes.{Node, Down, hashed_by_start, started, stopped}
+use Rattle.world_spec.specs.Runs.{Run, next_event, opening_mode, opening_run, stepped, changed, with_start}
 use Rattle.world_stores.specs.Faults.{no_faults}
 
 -- what a process finds on the disks of its peer when it starts: the fact that is saved there, the nodes of
@@ -68,16 +68,32 @@ abbrev pub run_on : List Moment → Run → Run
 run_on [] w = w
 run_on (m ∷ ms) w = run_on ms (after m w)
 
--- some peers, from 1 on; the view in which their ensemble opens; and all that happened to them
+-- some peers, from 1 on; the view in which their ensemble opens; what the first process of each peer found;
+-- and all that happened to them
 pub record Group : Type 0 where
   pub peers : ℕ
   pub view : List ℕ
+  pub first : ℕ → Found
   pub moments : List Moment
 
--- before the first moment each peer has started on empty disks; as on the disks of a peer that serves, it
--- keeps a seal and its tree has version two
+-- The first process of a peer has started on what it found. As a peer that serves it keeps a seal, and its
+-- tree has version two.
+abbrev pub born_on : List ℕ → Found → Node
+born_on view found = started (opening_mode Three) view (Down (stores_found found))
+
+-- so many peers from this one on have started, each on what its first process found
+abbrev pub born : (ℕ → Found) → List ℕ → (peer many : ℕ) → List Node
+born first view p zero = []
+born first view p (suc n) = born_on view (first p) ∷ born first view (suc p) n
+
+-- the strings that these starts hashed
+abbrev pub hashed_by_births : (ℕ → Found) → List ℕ → (peer many : ℕ) → List (List ℕ)
+hashed_by_births first view p zero = []
+hashed_by_births first view p (suc n) = hashed_by_start (opening_mode Three) view (Down (stores_found (first p))) ++ hashed_by_births first view (suc p) n
+
+-- before the first moment each peer has started for the first time
 abbrev pub opening_of : Group → Run
-opening_of g = opening_run Three g.peers g.view
+opening_of g = record (opening_run Three g.peers g.view) { nodes = born g.first g.view 1 g.peers; hashed = hashed_by_births g.first g.view 1 g.peers }
 
 -- the world after all that happened
 abbrev pub run_of : Group → Run

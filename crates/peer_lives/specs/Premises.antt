@@ -75,6 +75,9 @@ pub record IsSound (g : Group) : Type 0 where
   pub is_view : IsView g.view
   pub few_moments : length g.moments < 2 ^ 32
   pub of_peers : AlwaysIn g (IsOfPeers g.peers)
+  -- the first process of a peer finds no fact, and any nodes and objects: one that was cut off before it saved a
+  -- fact may have left some
+  pub first_without_fact : (p : ℕ) → IsAmong g.peers p → (g.first p).fact ≡ None
   pub one_process : AlwaysIn g IsOneProcess
   pub facts_survive : AlwaysIn g FactSurvives
   pub messages_were_sent : AlwaysIn g WasSent

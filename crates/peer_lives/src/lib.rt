@@ -3,9 +3,10 @@
 //!
 //! A process of a peer starts on the disks of its peer, takes steps, and is cut off; later another one
 //! starts on these disks. `specs/Moments` has the moments of such lives, of several peers in any order,
-//! and the world after them. `specs/Premises` has each premise by a name of its own: one process of a
-//! peer at a time, facts that survive, messages that were sent before they come, calls with ids of
-//! their own, and no two strings with one MD5.
+//! and the world after them. `specs/Premises` has each premise by a name of its own: a first process that
+//! finds no fact, one process of a peer at a time, facts that survive, messages that were sent before they
+//! come, calls with ids of their own, and no two strings with one MD5. `specs/Witness` has a peer that meets
+//! them, and groups that break one.
 #![tactic(auto)]
 
 mod laws;

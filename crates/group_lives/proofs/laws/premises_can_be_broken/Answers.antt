@@ -1,4 +1,4 @@
-use Rattle.group_lives.proofs.Lone.{lost_breaks, second_breaks, unsent_breaks}
+use Rattle.group_lives.proofs.Lone.{invented_breaks, lost_breaks, older_fails, second_breaks, unsent_breaks}
 use Rattle.group_lives.proofs.laws.premises_can_be_broken.Goals as goal
 
 pub returns-clause-unsent : goal.returns-clause-unsent
@@ -9,3 +9,9 @@ returns-clause-second g c = second_breaks g.D.Disk.seen g.D.Disk.fault_count
 
 pub returns-clause-lost : goal.returns-clause-lost
 returns-clause-lost g c = lost_breaks
+
+pub returns-clause-older : goal.returns-clause-older
+returns-clause-older g c = older_fails g.D.Disk.seen g.D.Disk.fault_count
+
+pub returns-clause-invented : goal.returns-clause-invented
+returns-clause-invented g c = invented_breaks g.D.Disk.seen g.D.Disk.fault_count

@@ -1,4 +1,4 @@
-use Rattle.peer_lives.proofs.Lone.{unsent_breaks, second_breaks, lost_breaks}
+use Rattle.peer_lives.proofs.Lone.{lost_breaks, older_breaks, second_breaks, unsent_breaks}
 use Rattle.peer_lives.proofs.laws.premises_can_be_broken.Goals as goal
 
 pub returns-clause-unsent : goal.returns-clause-unsent
@@ -9,3 +9,6 @@ returns-clause-second c = second_breaks
 
 pub returns-clause-lost : goal.returns-clause-lost
 returns-clause-lost c = lost_breaks
+
+pub returns-clause-older : goal.returns-clause-older
+returns-clause-older c = older_breaks
