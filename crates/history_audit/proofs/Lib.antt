@@ -1,4 +1,4 @@
-pub mod Called
 pub mod Rising
 pub mod Reported
 pub mod Texts
+pub mod Alike

@@ -3,10 +3,9 @@ ghost use Rattle.history_record.specs.declared.error.AuditError.TheVariants.{Mem
 ghost use Rattle.history_record.specs.Records.{IsRecord};
 ghost use Rattle.history_audit.specs.Reports.{IsReport};
 
-use crate::calls::calls_of;
 use crate::report::Report;
 use history_faults::faults_of;
-use history_record::{AuditError, Record};
+use history_record::{AuditError, Record, calls_of};
 use register_runs::RunError;
 use std::alloc::Global;
 

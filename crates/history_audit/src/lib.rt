@@ -6,7 +6,6 @@
 #![tactic(auto)]
 
 mod auditing;
-mod calls;
 mod report;
 mod text;
 

@@ -1,3 +1,4 @@
 pub mod Lookups
 pub mod Clauses
 pub mod Faults
+pub mod Shortened

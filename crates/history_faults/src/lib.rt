@@ -3,7 +3,8 @@
 //! [`faults_of`] tests each history of a list by the four clauses of `IsLegal` of `register_model`. For a
 //! history that is not legal it returns the first clause that the history violates, and the id at which it
 //! does. `specs/Clauses` defines the four clauses and their ids by tests of lists alone, and `specs/Faults`
-//! says which faults a list of histories has.
+//! says which faults a list of histories has. `specs/Shortened` says what of a history decides its fault, where an
+//! id of it is stray.
 #![tactic(auto)]
 
 mod amiss;
@@ -17,3 +18,4 @@ mod stray;
 
 pub use fault::Fault;
 pub use faults::faults_of;
+pub use stray::first_stray;

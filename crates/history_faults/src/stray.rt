@@ -27,8 +27,9 @@ fn is_stray(calls: &[Call], places: &Places, key: &Key, id: u64, is_last: bool) 
     !is_last || !is_call_on(calls, places, key, id)
 }
 
-/// Returns the first id of the order that occurs again, or is not that of a call on the key.
-pub(crate) fn first_stray(
+/// Returns the first id of the order that occurs again, or is not that of a call on the key. The calls must
+/// have distinct ids. Fails only when out of memory.
+pub fn first_stray(
     alloc: Global,
     calls: &[Call],
     places: &Places,

@@ -6,3 +6,5 @@ pub mod Spelled
 pub mod Refused
 pub mod Long
 pub mod Stages
+pub mod Called
+pub mod Shortening

@@ -1,8 +1,9 @@
 -- What reading keeps beside what it was told, to find the open calls and changes by a lookup.
-use Rattle.std.specs.Prelude.{◌≡◌, ℕ, ◌+◌, ◌≤◌, ◌++◌, length, map, Option}
+use Rattle.std.specs.Prelude.{◌≡◌, ℕ, ◌+◌, ◌≤◌, ◌++◌, List, length, map, Option}
 use Rattle.ens_base.specs.Lists.{◌∈◌, AreDistinct}
 use Rattle.register_model.specs.declared.answer.Answer.{Answer}
 use Rattle.register_model.specs.declared.call.Call.{Call}
+use Rattle.register_runs.specs.Places.{ArePlaces}
 use Rattle.schedule_text.specs.declared.schedule.Schedule.{Schedule}
 use Rattle.history_record.specs.Calls.{calls_from, keys_of}
 use Rattle.history_record.specs.Telling.{Heard, open_call, open_change}
@@ -25,3 +26,8 @@ pub record IsKept (h : Heard) (find_call find_change : ℕ → Option ℕ) (more
   pub calls : (id : ℕ) → find_call id ≡ open_call h id
   pub changes : (event : ℕ) → find_change event ≡ open_change h event
   pub few : h.lines + more ≤ 800004
+
+-- these are the calls, and a lookup finds the places of their ids
+pub record IsIndexed (h : Heard) (calls : List Call) (find : ℕ → Option ℕ) : Type 0 where
+  pub are : calls ≡ calls_from 1 h.schedule.events
+  pub places : ArePlaces find (map (λ c. c.id) calls)

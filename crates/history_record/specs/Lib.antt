@@ -5,3 +5,4 @@ pub mod Lines
 pub mod Telling
 pub mod Kept
 pub mod Reading
+pub mod Shortened

@@ -71,6 +71,11 @@ abbrev pub next_stage : Stage → List ℕ → Result Stage AuditError
 next_stage (Before p) text = if same_bytes text answers_line then opened (ended p []) else before (next_line p text)
 next_stage (Behind h) text = behind h.lines (next_heard h text)
 
+-- after a line that was not taken: as before; after the line `answers` the reading begins anew
+abbrev pub after_error : Stage → List ℕ → Stage
+after_error (Before p) text = if same_bytes text answers_line then first_stage else Before p
+after_error (Behind h) text = Behind h
+
 -- the schedule has ended, and the line `answers` is missing
 abbrev pub missing : Result Schedule ScheduleError → Result Record AuditError
 missing (Ok s) = flawed (length s.events + 3) Key

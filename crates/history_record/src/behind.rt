@@ -1,16 +1,20 @@
-ghost use Rattle.std.specs.Prelude.{◌≡◌, ◌+◌, ◌<◌, ◌≤◌, ℕ, List, length, Err, IfErr, IfOk, OnOk};
+ghost use Rattle.std.specs.Prelude.{◌≡◌, ◌+◌, ◌<◌, ◌≤◌, ℕ, List, length, Err, IfErr, IfOk, OnErr, OnOk};
 ghost use Rattle.history_record.specs.Lines.{most_bytes};
 ghost use Rattle.history_record.specs.Kept.{IsFit};
 ghost use Rattle.history_record.specs.Records.{IsRecord};
 ghost use Rattle.history_record.specs.Telling.{Hears, nothing_heard, next_heard, open_call, open_change, with_answer, with_change, with_history, with_line};
+ghost use Rattle.history_record.specs.Shortened.{with_short_last};
 ghost use Rattle.history_record.specs.Reading.{behind, Steps, end_stage, Behind};
 
+use crate::calls::calls_of;
 use crate::error::AuditError;
 use crate::flaw::{Flaw, LineError};
 use crate::lines::{RecordLine, record_line};
 use crate::record::Record;
 use ens_base::{Key, Seq};
-use register_model::{Answer, History};
+use history_faults::first_stray;
+use register_model::{Answer, Call, History};
+use register_runs::{Places, places_of_calls};
 use schedule_text::{Schedule, ScheduleEvent};
 use std::alloc::Global;
 use std::collections::{BTreeMap, BTreeSet};
@@ -32,13 +36,17 @@ pub(crate) struct Hearing {
     open_calls: BTreeMap<u64, u64>,
     /// The changes of view that have no line yet, by the numbers of their events, and their peers.
     open_changes: BTreeMap<u64, u64>,
+    /// All calls, and the places of their ids.
+    calls: Vec<Call>,
+    places: Places,
 }
 
 impl Model for Hearing {
-    ghost use Rattle.std.specs.Prelude.{◌+◌, length};
+    ghost use Rattle.std.specs.Prelude.{◌+◌, length, nat_eq};
     ghost use Rattle.std.specs.BTreeMap.{get};
     ghost use Rattle.std.specs.Ordering.{nat_cmp};
-    ghost use Rattle.history_record.specs.Kept.{IsKept, IsSound};
+    ghost use Rattle.indexmap.specs.IndexMap.{get as place};
+    ghost use Rattle.history_record.specs.Kept.{IsIndexed, IsKept, IsSound};
     ghost use Rattle.history_record.specs.Records.{IsRecord};
     ghost use Rattle.history_record.specs.Telling.{Heard};
 
@@ -48,7 +56,8 @@ impl Model for Hearing {
 
     ghost invariant = { λ s. IsSound (record { lines = s.lines; schedule = s.schedule; answers = s.answers.items; changes = s.changes.items; latest = s.latest; histories = s.histories.items; keys = s.keys.keys })
         × IsKept (record { lines = s.lines; schedule = s.schedule; answers = s.answers.items; changes = s.changes.items; latest = s.latest; histories = s.histories.items; keys = s.keys.keys })
-        (get nat_cmp s.open_calls) (get nat_cmp s.open_changes) (length s.open_calls.entries + (length s.open_changes.entries + length s.keys.keys)) };
+        (get nat_cmp s.open_calls) (get nat_cmp s.open_changes) (length s.open_calls.entries + (length s.open_changes.entries + length s.keys.keys))
+        × IsIndexed (record { lines = s.lines; schedule = s.schedule; answers = s.answers.items; changes = s.changes.items; latest = s.latest; histories = s.histories.items; keys = s.keys.keys }) s.calls.items (place nat_eq s.places.at) };
 }
 
 impl Hearing {
@@ -77,6 +86,8 @@ impl Hearing {
                 _ => {}
             }
         }
+        let calls = calls_of(alloc, events)?;
+        let places = places_of_calls(alloc, &calls)?;
         let lines = events.len() as u32 + 4;
         Ok(Hearing {
             alloc,
@@ -89,6 +100,8 @@ impl Hearing {
             keys,
             open_calls,
             open_changes,
+            calls,
+            places,
         })
     }
 
@@ -96,6 +109,7 @@ impl Hearing {
     fn answered(&mut self, answer: Answer) -> Result<(), LineError>
         ensures hears { Hears (with_answer self.old answer (open_call self.old answer.id)) self.new result }
         ensures count { OnOk result ((self.new.lines ≡ self.old.lines + 1) × (self.new.lines ≤ 800004)) }
+        ensures err { OnErr result (self.new ≡ self.old) }
     {
         let Some(called) = self.open_calls.get(&answer.id).copied() else {
             return Err(LineError::Flawed(Flaw::Subject));
@@ -116,6 +130,7 @@ impl Hearing {
     fn changed(&mut self, event: u64, peer: u64) -> Result<(), LineError>
         ensures hears { Hears (with_change self.old event peer (open_change self.old event)) self.new result }
         ensures count { OnOk result ((self.new.lines ≡ self.old.lines + 1) × (self.new.lines ≤ 800004)) }
+        ensures err { OnErr result (self.new ≡ self.old) }
     {
         let Some(asked) = self.open_changes.get(&event).copied() else {
             return Err(LineError::Flawed(Flaw::Subject));
@@ -138,6 +153,7 @@ impl Hearing {
     fn told(&mut self, history: History) -> Result<(), LineError>
         ensures hears { Hears (with_history self.old history self.old.keys) self.new result }
         ensures count { OnOk result ((self.new.lines ≡ self.old.lines + 1) × (self.new.lines ≤ 800004)) }
+        ensures err { OnErr result (self.new ≡ self.old) }
     {
         match self.keys.first() {
             Some(key) if *key == history.key => {}
@@ -154,6 +170,7 @@ impl Hearing {
     fn take(&mut self, line: RecordLine) -> Result<(), LineError>
         ensures hears { Hears (with_line self.old line) self.new result }
         ensures count { OnOk result ((self.new.lines ≡ self.old.lines + 1) × (self.new.lines ≤ 800004)) }
+        ensures err { OnErr result (self.new ≡ self.old) }
     {
         match line {
             RecordLine::Answered(answer) => self.answered(answer),
@@ -166,6 +183,7 @@ impl Hearing {
     fn hear(&mut self, text: &[u8]) -> Result<(), LineError>
         ensures hears { Hears (next_heard self.old text.now) self.new result }
         ensures count { OnOk result ((self.new.lines ≡ self.old.lines + 1) × (self.new.lines ≤ 800004)) }
+        ensures err { OnErr result (self.new ≡ self.old) }
     {
         let line = record_line(self.alloc, !self.histories.is_empty(), text)?;
         self.take(line)
@@ -175,6 +193,7 @@ impl Hearing {
     pub(crate) fn line(&mut self, text: &[u8]) -> Result<(), AuditError>
         ensures steps { Steps (behind self.old.lines (next_heard self.old text.now)) (Behind self.new) result }
         ensures count { OnOk result ((self.new.lines ≡ self.old.lines + 1) × (self.new.lines ≤ 800004)) }
+        ensures err { OnErr result (self.new ≡ self.old) }
     {
         let number = self.lines + 1;
         match self.hear(text) {
@@ -185,6 +204,26 @@ impl Hearing {
             }),
             Err(LineError::Memory) => Err(AuditError::Memory),
         }
+    }
+
+    /// Shortens the last history, if an id of it is stray.
+    pub(crate) fn shorten(&mut self) -> Result<(), AuditError>
+        ensures last { OnOk result (self.new ≡ with_short_last self.old) }
+        ensures err { OnErr result (self.new ≡ self.old) }
+        ensures memory { IfErr result (λ e. e ≡ AuditError.Memory) }
+    {
+        let count = self.histories.len();
+        if count == 0 {
+            return Ok(());
+        }
+        let last = &self.histories[count - 1];
+        let calls = self.calls.as_slice();
+        let order = last.calls.as_slice();
+        if let Some(id) = first_stray(self.alloc, calls, &self.places, &last.key, order)? {
+            let ids = vec![in self.alloc; id, id]?;
+            self.histories[count - 1].calls = Seq::new(ids);
+        }
+        Ok(())
     }
 
     /// Returns the error of the next line if it has more than 8,388,608 bytes, whatever its bytes are.

@@ -1,6 +1,7 @@
 ghost use Rattle.std.specs.Prelude.{◌≡◌};
 
 use ens_base::CopyError;
+use register_runs::RunError;
 use schedule_text::ScheduleError;
 use std::alloc::{AllocError, AllocFailed};
 
@@ -35,6 +36,16 @@ impl From<CopyError> for AuditError {
     ghost from_gives = { λ _ e. e ≡ Memory };
 
     fn from(_e: CopyError) -> AuditError {
+        AuditError::Memory
+    }
+}
+
+impl From<RunError> for AuditError {
+    ghost use Rattle.history_record.specs.declared.error.AuditError.TheVariants.{Memory};
+
+    ghost from_gives = { λ _ e. e ≡ Memory };
+
+    fn from(_e: RunError) -> AuditError {
         AuditError::Memory
     }
 }

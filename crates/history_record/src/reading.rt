@@ -1,7 +1,8 @@
-ghost use Rattle.std.specs.Prelude.{◌≡◌, ◌+◌, ◌<◌, ◌≤◌, ℕ, List, length, Ok, Err, IfOk, OnOk};
+ghost use Rattle.std.specs.Prelude.{◌≡◌, ◌+◌, ◌<◌, ◌≤◌, ℕ, List, length, Ok, Err, IfErr, IfOk, OnErr, OnOk};
 ghost use Rattle.history_record.specs.Kept.{IsFit};
 ghost use Rattle.history_record.specs.Records.{IsRecord};
-ghost use Rattle.history_record.specs.Reading.{Steps, end_stage, first_stage, lines_of, missing, most_in, next_stage};
+ghost use Rattle.history_record.specs.Shortened.{stage_with_short_last};
+ghost use Rattle.history_record.specs.Reading.{Steps, after_error, end_stage, first_stage, lines_of, missing, most_in, next_stage};
 
 use crate::behind::Hearing;
 use crate::error::AuditError;
@@ -17,8 +18,8 @@ use std::mem;
 /// The line between the schedule and the answers.
 const ANSWERS: &[u8; 7] = b"answers";
 
-/// A record that is read line by line. Contracts see how far the reading has come. Once a line was rejected,
-/// nothing is said of what follows.
+/// A record that is read line by line. Contracts see how far the reading has come. A line that was rejected leaves
+/// it as it was, but for the line `answers`, after which it begins anew.
 #[derive(Drop)]
 pub struct RecordReading {
     alloc: Global,
@@ -86,6 +87,7 @@ impl RecordReading {
         ensures steps { Steps (next_stage self.old text.now) self.new result }
         ensures count { OnOk result (lines_of self.new ≡ lines_of self.old + 1) }
         ensures few { OnOk result (lines_of self.new ≤ 800004) }
+        ensures err { OnErr result (self.new ≡ after_error self.old text.now) }
     {
         if let Some(hearing) = &mut self.behind {
             return hearing.line(text);
@@ -98,6 +100,20 @@ impl RecordReading {
         let schedule = reading.end(&[])?;
         self.behind = Some(Hearing::new(self.alloc, schedule)?);
         Ok(())
+    }
+
+    /// Shortens the last history, if an id of it is stray: it keeps the first such id alone, twice. The report
+    /// on the record stays the same, and all histories together have few more ids than the schedule has calls.
+    /// Fails only when out of memory.
+    pub fn shorten(&mut self) -> Result<(), AuditError>
+        ensures last { OnOk result (self.new ≡ stage_with_short_last self.old) }
+        ensures err { OnErr result (self.new ≡ self.old) }
+        ensures memory { IfErr result (λ e. e ≡ AuditError.Memory) }
+    {
+        match &mut self.behind {
+            Some(hearing) => hearing.shorten(),
+            None => Ok(()),
+        }
     }
 
     /// Ends the record. `rest` is what follows the last line feed: no bytes, or a line that is cut short and

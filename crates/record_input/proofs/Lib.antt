@@ -1,3 +1,4 @@
 pub mod NextLine
 pub mod Parts
 pub mod Cutting
+pub mod Alike

@@ -1,9 +1,10 @@
 -- The next line of the bytes to come, where a line has at most so many bytes.
-use Rattle.std.specs.Prelude.{◌≡◌, ℕ, ◌+◌, ◌<◌, ◌≤◌, List, [], ◌∷◌, ◌++◌, length, take, Option, Some, None}
+use Rattle.std.specs.Prelude.{◌≡◌, ℕ, ◌+◌, ◌<◌, ◌≤◌, List, [], ◌∷◌, ◌++◌, length, take, Option, Some, None, Result, Ok, Err}
 use Rattle.std.specs.Io.KnownBytes.{Consumes, Keeps, IsAtEnd}
 use Rattle.ens_outside.specs.Lines.{HasNoFeed}
 use Rattle.ens_outside.specs.declared.lines.Next.{Next}
 use Rattle.ens_outside.specs.declared.lines.Next.TheVariants.{Line, Rest, TooLong}
+use Rattle.ens_outside.specs.declared.lines.NextError.{NextError}
 
 -- at most so many bytes without a line feed
 pub record IsLine (most : ℕ) (xs : List ℕ) : Type 0 where
@@ -27,3 +28,10 @@ abbrev pub IsReady : ℕ → List ℕ → List ℕ → Next → Type 0
 IsReady most old new (Line v) = IsLine most v.items × (old ≡ (v.items ++ 10 ∷ []) ++ new)
 IsReady most old new (Rest v) = ⊥
 IsReady most old new TooLong = (most < length old) × HasNoFeed (take (most + 1) old) × (new ≡ old)
+
+-- the pending bytes, with those of the line that a call returned, are at most one more than a line may have
+abbrev pub AreFew : ℕ → ℕ → Result Next NextError → Type 0
+AreFew most pending (Ok (Line v)) = length v.items + 1 + pending ≤ most + 1
+AreFew most pending (Ok (Rest v)) = length v.items + pending ≤ most + 1
+AreFew most pending (Ok TooLong) = pending ≤ most + 1
+AreFew most pending (Err e) = pending ≤ most + 1

@@ -2,7 +2,7 @@ ghost use Rattle.std.specs.Prelude.{◌≡◌, ◌+◌, ◌<◌, ◌≤◌, ◌+
 ghost use Rattle.std.specs.Io.KnownBytes.{prepend_known, Keeps, IsAtEnd};
 ghost use Rattle.ens_base.specs.Causes.{Rose};
 ghost use Rattle.ens_outside.specs.Lines.{HasNoFeed};
-ghost use Rattle.record_input.specs.Lines.{IsNext, IsReady, IsLine};
+ghost use Rattle.record_input.specs.Lines.{AreFew, IsNext, IsReady, IsLine};
 
 use ens_base::Failed;
 use ens_outside::{Next, NextError, Source};
@@ -127,7 +127,8 @@ impl RecordLines {
         source: &mut S,
         most: usize,
     ) -> Result<Next, NextError>
-        requires { most < 2 ^ 24 }
+        requires most { most < 2 ^ 24 }
+        requires few { length self.old.pending.items ≤ most + 1 }
         ensures next { IfOk result (IsNext most (prepend_known self.old.pending.items (S.left source.old))
             (prepend_known self.new.pending.items (S.left source.new))) }
         ensures kept { OnErr result (Keeps (prepend_known self.old.pending.items (S.left source.old))
@@ -136,6 +137,7 @@ impl RecordLines {
         ensures failed { IsErrOf result NextError.Failed → Rose (S.fault_count source.old) (S.fault_count source.new) }
         // The source failed before the bytes that it gave decided anything.
         ensures undecided { IsErrOf result NextError.Failed → IsLine most self.new.pending.items }
+        ensures few { AreFew most (length self.new.pending.items) result }
     {
         let mut searched = 0;
         for turn in 0..most + 2 {

@@ -1,10 +1,10 @@
-ghost use Rattle.std.specs.Prelude.{◌≡◌, ◌≢◌, ◌+◌, ◌≤◌, ℕ, List, Option, Ok, Err, IfOk, IfErr, IfSome, IfNone, OnOk, IsErrOf};
+ghost use Rattle.std.specs.Prelude.{◌≡◌, ◌≢◌, ◌+◌, ◌≤◌, ℕ, List, Option, Ok, Err, length, IfOk, IfErr, IfSome, IfNone, OnOk, IsErrOf};
 ghost use Rattle.std.specs.Io.KnownBytes.{prepend_known, IsAtEnd};
 ghost use Rattle.ens_base.specs.Causes.{Rose};
-ghost use Rattle.history_record.specs.Reading.{end_stage, first_stage, lines_of, most_in, record_of};
+ghost use Rattle.history_record.specs.Reading.{end_stage, first_stage, lines_of, most_in};
 ghost use Rattle.history_record.specs.Records.{IsRecord};
 ghost use Rattle.record_input.specs.Lines.{BeginsLong};
-ghost use Rattle.record_input.specs.Reading.{HasTaken, ReadsAs, ReadsOn, Refuses, WasCutOff};
+ghost use Rattle.record_input.specs.Reading.{HasTaken, IsLike, ReadsAs, ReadsOn, Refuses, WasCutOff, WasTakenTo};
 
 use crate::lines::RecordLines;
 use ens_outside::{Next, NextError, Source};
@@ -63,12 +63,15 @@ fn take_line<S: Source>(
     input: &mut S,
     reading: &mut RecordReading,
 ) -> Result<Option<Vec<u8>>, ReadError>
+    requires { length lines.old.pending.items ≤ most_in reading.old + 1 }
     ensures line { IfOk result (λ o. IfNone o (ReadsOn (prepend_known lines.old.pending.items (S.left input.old)) reading.old (prepend_known lines.new.pending.items (S.left input.new)) reading.new)) }
     ensures count { IfOk result (λ o. IfNone o ((lines_of reading.new ≡ lines_of reading.old + 1) × (lines_of reading.new ≤ 800004))) }
     ensures rest { IfOk result (λ o. IfSome o (λ v. ReadsAs (prepend_known lines.old.pending.items (S.left input.old)) reading.old (end_stage reading.old v.items) × IsAtEnd (prepend_known lines.new.pending.items (S.left input.new)) × (reading.new ≡ reading.old))) }
     ensures bad { IfErr result (Refuses (prepend_known lines.old.pending.items (S.left input.old)) reading.old) }
     ensures later { S.fault_count input.old ≤ S.fault_count input.new }
     ensures failed { IsErrOf result ReadError.Failed → Rose (S.fault_count input.old) (S.fault_count input.new) }
+    ensures few { OnOk result (length lines.new.pending.items ≤ most_in reading.new + 1) }
+    ensures taken { (source : Option (List ℕ)) → HasTaken source lines.old.pending.items (S.left input.old) reading.old → WasTakenTo source (S.left input.new) }
     ensures held { IfOk result (λ o. IfNone o ((source : Option (List ℕ)) → HasTaken source lines.old.pending.items (S.left input.old) reading.old → HasTaken source lines.new.pending.items (S.left input.new) reading.new)) }
     ensures cut { IsErrOf result ReadError.Failed → (source : Option (List ℕ)) → HasTaken source lines.old.pending.items (S.left input.old) reading.old → WasCutOff source (S.left input.new) }
 {
@@ -104,14 +107,18 @@ fn end_of(reading: RecordReading, rest: &[u8]) -> Result<Record, ReadError>
 }
 
 /// Reads a record up to the end of the source, its first bad line, or the first byte of a line 200,001 that
-/// is not `answers`.
+/// is not `answers`. A history with a stray id keeps that id alone, so that all histories together take little
+/// memory beside the schedule, however long their lines are; the report on the record stays the same.
 pub fn read_record<S: Source>(alloc: Global, input: &mut S) -> Result<Record, ReadError>
-    ensures ok { IfOk result (λ r. IfSome (S.left input.old) (λ bytes. record_of bytes ≡ Ok r)) }
+    ensures ok { IfOk result (λ r. IfSome (S.left input.old) (λ bytes. IsLike bytes r)) }
     ensures record { IfOk result IsRecord }
     ensures end { OnOk result (IsAtEnd (S.left input.new)) }
     ensures bad { IfErr result (Refuses (S.left input.old) first_stage) }
     ensures later { S.fault_count input.old ≤ S.fault_count input.new }
     ensures failed { IsErrOf result ReadError.Failed → Rose (S.fault_count input.old) (S.fault_count input.new) }
+    // However it ends, it took lines none of which is bad, and after them at most one byte more than the next line
+    // may have.
+    ensures taken { WasTakenTo (S.left input.old) (S.left input.new) }
     // The source failed before the bytes that it gave decided anything.
     ensures cut { IsErrOf result ReadError.Failed → WasCutOff (S.left input.old) (S.left input.new) }
 {
@@ -121,6 +128,7 @@ pub fn read_record<S: Source>(alloc: Global, input: &mut S) -> Result<Record, Re
         if let Some(rest) = take_line(alloc, &mut lines, input, &mut reading)? {
             return end_of(reading, &rest);
         }
+        reading.shorten()?;
     }
     unreachable!()
 }

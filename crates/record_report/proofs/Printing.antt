@@ -6,11 +6,14 @@ use Rattle.ens_base.specs.declared.status.Status.{Status}
 use Rattle.history_audit.specs.Reports.{IsReport}
 use Rattle.history_audit.specs.Text.{report_line}
 use Rattle.history_audit.specs.declared.report.Report.{Report}
+use Rattle.history_audit.proofs.Alike.{alike_report}
 use Rattle.history_record.specs.Reading.{record_of}
+use Rattle.history_record.specs.Records.{IsRecord}
 use Rattle.history_record.specs.declared.error.AuditError.{AuditError}
 use Rattle.history_record.specs.declared.error.AuditError.TheVariants as audit
 use Rattle.history_record.specs.declared.record.Record.{Record}
 use Rattle.record_input.specs.Endings.{IsUnread}
+use Rattle.record_input.specs.Reading.{IsLike}
 use Rattle.record_report.specs.Printed.{IsAuditable, IsReportText, PrintsReport}
 
 -- the text that was made of a report is that of the report
@@ -18,9 +21,9 @@ pub reported : (r : Record) (report : Report) (made : Result (Vec ℕ Global) Au
 reported r report (Ok text) is made = (report, is, made)
 reported r report (Err e) is made = tt
 
-pub report_prints : (source : Option (List ℕ)) (r : Record) (text : List ℕ) → IfSome source (λ bytes. record_of bytes ≡ Ok r) → IsReportText r text → PrintsReport source Status.Done text
-report_prints None r text read is = tt
-report_prints (Some bytes) r text read is = (r, read, is)
+pub report_prints : (source : Option (List ℕ)) (r : Record) (text : List ℕ) → IsRecord r → IfSome source (λ bytes. IsLike bytes r) → IsReportText r text → PrintsReport source Status.Done text
+report_prints None r text sound read is = tt
+report_prints (Some bytes) r text sound read is = (read.0, read.1, (is.0, alike_report r read.0 is.0 sound read.2 is.1, is.2))
 
 pub unread_prints : (source : Option (List ℕ)) (status : Status) (text : List ℕ) → IsUnread source status text → PrintsReport source status text
 unread_prints source Status.Done text unread = absurd unread

@@ -1,11 +1,11 @@
-ghost use Rattle.std.specs.Prelude.{◌≡◌, ◌≢◌, List, ℕ, Option, Ok, IfOk, IfSome};
+ghost use Rattle.std.specs.Prelude.{◌≡◌, ◌≢◌, List, ℕ, Option, IfOk, IfSome};
 ghost use Rattle.std.specs.Io.KnownBytes.{Appends, IsAtEnd};
 ghost use Rattle.ens_base.specs.Causes.{Rose};
 ghost use Rattle.ens_base.specs.declared.status.Status.{Status};
 ghost use Rattle.ens_outside.specs.Written.{AppendsFront};
-ghost use Rattle.history_record.specs.Reading.{first_stage, record_of};
+ghost use Rattle.history_record.specs.Reading.{first_stage};
 ghost use Rattle.history_record.specs.Records.{IsRecord};
-ghost use Rattle.record_input.specs.Reading.{Refuses, WasCutOff};
+ghost use Rattle.record_input.specs.Reading.{IsLike, Refuses, WasCutOff, WasTakenTo};
 ghost use Rattle.record_report.specs.Printed.{IsReportText, PrintsReport};
 
 use ens_base::Status;
@@ -31,10 +31,10 @@ fn text_of_report(alloc: Global, recorded: &Record) -> Result<Vec<u8>, AuditErro
     report_text(alloc, &report)
 }
 
-/// Returns how an audit ends that read this record. Fails when out of memory.
+/// Returns how an audit ends that read a record like this one. Fails when out of memory.
 fn read_ending(alloc: Global, recorded: &Record) -> Result<Audited, AllocError>
     requires { IsRecord recorded.now }
-    ensures printed { IfOk result (λ a. (source : Option (List ℕ)) → IfSome source (λ bytes. record_of bytes ≡ Ok recorded.now) → PrintsReport source a.status a.text.items) }
+    ensures printed { IfOk result (λ a. (source : Option (List ℕ)) → IfSome source (λ bytes. IsLike bytes recorded.now) → PrintsReport source a.status a.text.items) }
     ensures status { IfOk result (λ a. a.status ≡ Status.Done) }
 {
     match text_of_report(alloc, recorded) {
@@ -64,6 +64,7 @@ fn audit_ending<S: Source>(alloc: Global, input: &mut S) -> Result<Audited, Allo
     ensures end { IfOk result (λ a. a.status ≡ Status.Done → IsAtEnd (S.left input.new)) }
     ensures read { IfOk result (λ a. a.status ≡ Status.ReadFault → Rose (S.fault_count input.old) (S.fault_count input.new)) }
     ensures cut { IfOk result (λ a. a.status ≡ Status.ReadFault → WasCutOff (S.left input.old) (S.left input.new)) }
+    ensures taken { WasTakenTo (S.left input.old) (S.left input.new) }
 {
     match read_record(alloc, input) {
         Ok(record) => read_ending(alloc, &record),
@@ -98,6 +99,9 @@ pub fn print_report<S: Source, O: Sink>(alloc: Global, input: &mut S, output: &m
     ensures read { result ≡ Status.ReadFault → Rose (S.fault_count input.old) (S.fault_count input.new) }
     // The input failed before the bytes that it gave decided anything.
     ensures cut { result ≡ Status.ReadFault → WasCutOff (S.left input.old) (S.left input.new) }
+    // However it ends, it took lines none of which is bad, and after them at most one byte more than the next line
+    // may have.
+    ensures taken { WasTakenTo (S.left input.old) (S.left input.new) }
     ensures write { result ≡ Status.WriteFault → Rose (O.fault_count output.old) (O.fault_count output.new) }
 {
     match audit_ending(alloc, input) {

@@ -1,12 +1,13 @@
-use Rattle.std.proofs.Common.{◌≡◌, ℕ, List, refl, subst, Ok}
+use Rattle.std.proofs.Common.{◌≡◌, ℕ, List, [], ◌∷◌, ◌++◌, length-append, refl, subst, Ok, arith}
 use Rattle.std.proofs.lemmas.Result.{err_from_is_err_and}
 use Rattle.history_record.specs.Reading.{Stops, next_stage}
-use Rattle.record_input.proofs.Cutting.{cut_off, next_failed, taken_next}
+use Rattle.history_record.proofs.Shortening.{most_grows}
+use Rattle.record_input.proofs.Cutting.{cut_off, next_failed, taken_next, taken_none, taken_to}
 use Rattle.record_input.proofs.Parts.{line_taken, most_few, refuses_line, rest_read}
 use Rattle.record_input.proofs.read.take_line.Goals as goal
 
-pub next-requires : goal.next-requires
-next-requires g c = rw c.most_bytes.ensures (most_few c.args.reading.now)
+pub next-requires-clause-most : goal.next-requires-clause-most
+next-requires-clause-most g c = rw c.most_bytes.ensures (most_few c.args.reading.now)
 
 pub returns-in_err-line-in-Line-clause-bad : goal.returns-in_err-line-in-Line-clause-bad
 returns-in_err-line-in-Line-clause-bad g c =
@@ -36,3 +37,37 @@ pub returns-in_err-line-clause-cut : goal.returns-in_err-line-clause-cut
 returns-in_err-line-clause-cut g c =
     let exit = err_from_is_err_and c.from_residual.result c.from_residual.ensures.1 in
     rw (exit.1, exit.2) (λ is source h. cut_off source _ _ _ _ c.args.reading.now h c.in_err-line.ensures.kept (rw c.most_bytes.ensures at (c.in_err-line.ensures.undecided (next_failed c.in_err-line.field-0.0 is))))
+
+pub returns-in_ok-line-in-Line-clause-few : goal.returns-in_ok-line-in-Line-clause-few
+returns-in_ok-line-in-Line-clause-few g c =
+    let few = rw c.in-Line.is at c.in_ok-line.ensures.few in
+    let P : List ℕ → Type 0 = λ v. next_stage c.args.reading.now v ≡ Ok c.line.new.self in
+    let grows = most_grows c.args.reading.now c.line.new.self c.in-Line.line.items (subst P c.deref.ensures.value c.in_ok-line-in-Line.ensures.steps) in
+    omega (arith, few, grows, c.most_bytes.ensures)
+
+pub returns-in_ok-line-in-Line-clause-taken : goal.returns-in_ok-line-in-Line-clause-taken
+returns-in_ok-line-in-Line-clause-taken g c =
+    let next = rw c.in-Line.is at c.in_ok-line.ensures.next in
+    let few = rw (c.in-Line.is, c.most_bytes.ensures) at c.in_ok-line.ensures.few in
+    λ source h. taken_to source _ _ _ (c.in-Line.line.items ++ 10 ∷ []) _ c.args.reading.now _ (length-append c.in-Line.line.items (10 ∷ [])) next.1 few h
+
+pub returns-in_err-line-in-Line-clause-taken : goal.returns-in_err-line-in-Line-clause-taken
+returns-in_err-line-in-Line-clause-taken g c =
+    let next = rw c.in-Line.is at c.in_ok-line.ensures.next in
+    let few = rw (c.in-Line.is, c.most_bytes.ensures) at c.in_ok-line.ensures.few in
+    λ source h. taken_to source _ _ _ (c.in-Line.line.items ++ 10 ∷ []) _ c.args.reading.now _ (length-append c.in-Line.line.items (10 ∷ [])) next.1 few h
+
+pub returns-in-Rest-clause-taken : goal.returns-in-Rest-clause-taken
+returns-in-Rest-clause-taken g c =
+    let next = rw c.in-Rest.is at c.in_ok-line.ensures.next in
+    let few = rw (c.in-Rest.is, c.most_bytes.ensures) at c.in_ok-line.ensures.few in
+    λ source h. taken_to source _ _ _ c.in-Rest.rest.items _ c.args.reading.now _ refl next.1 few h
+
+pub returns-in-TooLong-clause-taken : goal.returns-in-TooLong-clause-taken
+returns-in-TooLong-clause-taken g c =
+    let next = rw c.in-TooLong.is at c.in_ok-line.ensures.next in
+    let few = rw (c.in-TooLong.is, c.most_bytes.ensures) at c.in_ok-line.ensures.few in
+    λ source h. taken_none source _ _ _ _ c.args.reading.now next.1 few h
+
+pub returns-in_err-line-clause-taken : goal.returns-in_err-line-clause-taken
+returns-in_err-line-clause-taken g c = λ source h. taken_none source _ _ _ _ c.args.reading.now c.in_err-line.ensures.kept (rw c.most_bytes.ensures at c.in_err-line.ensures.few) h

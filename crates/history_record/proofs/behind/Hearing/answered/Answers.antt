@@ -19,4 +19,5 @@ invariant_of-self-2 c =
     rw items (
       answer_sound _ _ _ _ sound kept c.args.answer c.in-Some.called found (omega (arith, c.if-answer-called.false)),
       answer_kept _ _ _ _ sound kept c.args.answer c.in-Some.called found (get nat_cmp c.remove.new.self) _ c.remove.ensures.updates.0 (omega (arith, len)),
+      record { are = c.self.invariant.2.are; places = c.self.invariant.2.places },
     )

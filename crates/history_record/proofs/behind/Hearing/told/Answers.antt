@@ -24,4 +24,5 @@ invariant_of-self-2 c =
     rw items (
       history_sound _ _ _ _ sound kept c.args.history c.pop_first.new.self.keys is,
       history_kept _ _ _ _ sound kept c.args.history c.pop_first.new.self.keys _ (omega (arith, len)),
+      record { are = c.self.invariant.2.are; places = c.self.invariant.2.places },
     )

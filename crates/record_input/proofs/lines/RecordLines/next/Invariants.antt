@@ -11,5 +11,6 @@ invariant-loop-turn g l = record {
   long : l.turn ≤ vec_len l.self.pending;
   searched : l.searched ≤ length l.self.pending.items;
   short : l.searched ≤ l.most + 1;
+  held : length l.self.pending.items ≤ l.most + 1;
   clear : HasNoFeed (take l.searched l.self.pending.items);
 }

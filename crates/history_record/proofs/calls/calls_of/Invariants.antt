@@ -1,6 +1,6 @@
 use Rattle.std.proofs.Common.{◌≡◌, ◌+◌, ◌++◌, drop}
 use Rattle.history_record.specs.Calls.{calls_from}
-use Rattle.history_audit.proofs.calls.calls_of.Given as goal
+use Rattle.history_record.proofs.calls.calls_of.Given as goal
 
 abbrev pub invariant-loop-event : goal.invariant-loop-event
 invariant-loop-event l = record {

@@ -33,7 +33,7 @@ fn push_call(
 }
 
 /// Returns the calls of the events, each with the number of its event, counted from 1.
-pub(crate) fn calls_of(alloc: Global, events: &[ScheduleEvent]) -> Result<Vec<Call>, CopyError>
+pub fn calls_of(alloc: Global, events: &[ScheduleEvent]) -> Result<Vec<Call>, CopyError>
     ensures { IfOk result (λ v. v.items ≡ calls_from 1 events.now) }
 {
     let mut calls = Vec::new(alloc);

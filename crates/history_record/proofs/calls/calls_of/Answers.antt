@@ -1,7 +1,7 @@
 use Rattle.std.proofs.Common.{◌≡◌, ◌+◌, ◌++◌, [], arith}
 use Rattle.history_record.specs.Calls.{call_at}
-use Rattle.history_audit.proofs.Called.{call_next, calls_end}
-use Rattle.history_audit.proofs.calls.calls_of.Goals as goal
+use Rattle.history_record.proofs.Called.{call_next, calls_end}
+use Rattle.history_record.proofs.calls.calls_of.Goals as goal
 
 pub loop-event-preserved : goal.loop-event-preserved
 loop-event-preserved c =
