@@ -1,14 +1,14 @@
 -- What a job on a backup read, and what it prints.
-use Rattle.std.proofs.Common.{◌≡◌, ℕ, List, Option, Result, Ok, Err, refl, subst, inl}
+use Rattle.std.proofs.Common.{◌≡◌, ℕ, List, Option, Result, Ok, Err, ◌≤◌, None, Some, length, refl, sym, subst, inl}
 use Rattle.std.specs.Prelude.{IfOk, string_bytes}
-use Rattle.std.specs.Io.KnownBytes.{IsAtEnd}
+use Rattle.std.specs.Io.KnownBytes.{IsAtEnd, Keeps, prepend_known}
 use Rattle.std.specs.declared.alloc.AllocError.{AllocError}
 use Rattle.ens_base.specs.Causes.{Rose}
 use Rattle.ens_base.specs.declared.status.Status.{Status}
 use Rattle.ens_base.proofs.Statuses.{memory_not_done, memory_no_fault}
 use Rattle.tree_backup.specs.declared.error.BackupError.{BackupError}
 use Rattle.tree_backup.specs.declared.error.BackupError.TheVariants as errors
-use Rattle.backup_job.specs.Printed.{EndsAs, HasRead, PrintsCheck, Reads, Reports, Stops, Unread, memory_text}
+use Rattle.backup_job.specs.Printed.{EndsAs, GaveAtMost, HasRead, PrintsCheck, Reads, Reports, Stops, Unread, WasReadWhole, memory_text}
 use Rattle.backup_job.specs.Restored.{Restored, RestoresTo}
 use Rattle.backup_job.specs.declared.checking.ReadError.{ReadError}
 use Rattle.backup_job.specs.declared.checking.ReadError.TheVariants as reads
@@ -40,6 +40,22 @@ stopped_prints source (reads.Backup e) status text read h = refused_prints sourc
 pub ok_weaker : {A E : Type 0} (r : Result A E) (P Q : A → Type 0) → ((x : A) → P x → Q x) → IfOk r P → IfOk r Q
 ok_weaker (Ok x) P Q k h = k x h
 ok_weaker (Err e) P Q k h = tt
+
+-- a source that gave these bytes, at most so many
+pub gave_most : (most : ℕ) (source left : Option (List ℕ)) (v : List ℕ) → Keeps source (prepend_known v left) → length v ≤ most → GaveAtMost most source left
+gave_most most None left v kept few = tt
+gave_most most (Some bytes) None v kept few = absurd kept
+gave_most most (Some bytes) (Some rest) v kept few = (v, sym kept, few)
+
+-- a test ends with a cause only of bytes that were read whole
+pub stops_whole : (e : ReadError) (left : Option (List ℕ)) (status : Status) (text : List ℕ) → WasReadWhole left e → Stops e status text → status ≡ Status.Backup → IsAtEnd left
+stops_whole (reads.Backup e) left status text whole stops is = whole
+stops_whole (reads.Input e) left status text whole stops is = absurd (by e (subst (λ (s : Status). Unread e s text) is stops))
+  where
+    by : (e : InputError) → Unread e Status.Backup text → ⊥
+    by inputs.Failed h = h
+    by inputs.TooLong h = h
+    by inputs.Memory h = h
 
 -- what ended a test of a source that gave no content
 done_unread : (e : ReadError) (text : List ℕ) → Stops e Status.Done text → ⊥

@@ -115,6 +115,17 @@ pub record HasRead (source left : Option (List ℕ)) (before now : ℕ) (status 
   pub end : status ≡ Status.Done → IsAtEnd left
   pub fault : status ≡ Status.ReadFault → Rose before now
 
+-- a source gave some bytes, at most so many
+abbrev pub GaveAtMost : ℕ → Option (List ℕ) → Option (List ℕ) → Type 0
+GaveAtMost most None left = Unit {0}
+GaveAtMost most (Some bytes) None = ⊥
+GaveAtMost most (Some bytes) (Some left) = (front : List ℕ) × (bytes ≡ front ++ left) × (length front ≤ most)
+
+-- bytes that do not pass were read to their end
+abbrev pub WasReadWhole : Option (List ℕ) → ReadError → Type 0
+WasReadWhole left (reads.Input e) = Unit {0}
+WasReadWhole left (reads.Backup e) = IsAtEnd left
+
 -- nothing in these bytes ends a test of them early: they are not too many, and they pass
 pub record IsCheckable (bytes : List ℕ) : Type 0 where
   pub few : length bytes ≤ 268435456

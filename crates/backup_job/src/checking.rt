@@ -1,4 +1,4 @@
-ghost use Rattle.std.specs.Prelude.{◌≡◌, ◌≢◌, ◌≤◌, List, ℕ, [], map, IfOk, IsErrOf, string_bytes};
+ghost use Rattle.std.specs.Prelude.{◌≡◌, ◌≢◌, ◌≤◌, List, ℕ, [], map, IfErr, IfOk, IsErrOf, string_bytes};
 ghost use Rattle.std.specs.Io.KnownBytes.{Appends, IsAtEnd};
 ghost use Rattle.ens_base.specs.Causes.{Rose};
 ghost use Rattle.ens_base.specs.declared.status.Status.{Status};
@@ -6,7 +6,7 @@ ghost use Rattle.ens_outside.specs.Written.{AppendsFront};
 ghost use Rattle.tree_maps.specs.Entries.{IsMap};
 ghost use Rattle.tree_node.specs.Entries.{AreAbove};
 ghost use Rattle.tree_backup.specs.Items.{KeysAbove};
-ghost use Rattle.backup_job.specs.Printed.{PrintsCheck, Reads};
+ghost use Rattle.backup_job.specs.Printed.{GaveAtMost, PrintsCheck, Reads, WasReadWhole};
 
 use crate::ending::{Ending, counted, print_ending, stopped};
 use crate::input::{InputError, read_all};
@@ -37,6 +37,9 @@ pub(crate) fn read_content<S: Source, R: Threads + Sync>(
     ensures end { IfOk result (λ _. IsAtEnd (S.left input.new)) }
     ensures later { S.fault_count input.old ≤ S.fault_count input.new }
     ensures failed { IsErrOf result (ReadError.Input InputError.Failed) → Rose (S.fault_count input.old) (S.fault_count input.new) }
+    ensures whole { IfErr result (WasReadWhole (S.left input.new)) }
+    ensures taken { GaveAtMost 268435457 (S.left input.old) (S.left input.new) }
+    ensures cut { IsErrOf result (ReadError.Input InputError.Failed) → GaveAtMost 268435456 (S.left input.old) (S.left input.new) }
     ensures map { IfOk result (λ c. IsMap c.entries) }
     ensures entries { IfOk result (λ c. AreAbove [] c.entries) }
     ensures objects { IfOk result (λ c. KeysAbove [] (map (λ o. o.key) c.objects)) }
@@ -60,6 +63,9 @@ fn check_ending<S: Source, R: Threads + Sync>(
     ensures printed { IfOk result (λ e. PrintsCheck (S.left input.old) e.status (string_bytes e.text)) }
     ensures end { IfOk result (λ e. e.status ≡ Status.Done → IsAtEnd (S.left input.new)) }
     ensures read { IfOk result (λ e. e.status ≡ Status.ReadFault → Rose (S.fault_count input.old) (S.fault_count input.new)) }
+    ensures whole { IfOk result (λ e. e.status ≡ Status.Backup → IsAtEnd (S.left input.new)) }
+    ensures taken { GaveAtMost 268435457 (S.left input.old) (S.left input.new) }
+    ensures cut { IfOk result (λ e. e.status ≡ Status.ReadFault → GaveAtMost 268435456 (S.left input.old) (S.left input.new)) }
 {
     match read_content(rt, alloc, input) {
         Ok(content) => counted(alloc, &content),
@@ -83,6 +89,12 @@ pub fn print_check<S: Source, O: Sink, R: Threads + Sync>(
     ensures front { result ≡ Status.WriteFault → (status : Status) × (text : List ℕ) × PrintsCheck (S.left input.old) status text × (status ≡ Status.Done → IsAtEnd (S.left input.new)) × (status ≡ Status.ReadFault → Rose (S.fault_count input.old) (S.fault_count input.new)) × AppendsFront (O.written output.old) (O.written output.new) text }
     ensures end { result ≡ Status.Done → IsAtEnd (S.left input.new) }
     ensures read { result ≡ Status.ReadFault → Rose (S.fault_count input.old) (S.fault_count input.new) }
+    // Bytes that do not pass were read to their end.
+    ensures whole { result ≡ Status.Backup → IsAtEnd (S.left input.new) }
+    // However it ends, it took at most one byte more than a backup may have.
+    ensures taken { GaveAtMost 268435457 (S.left input.old) (S.left input.new) }
+    // The input failed before the bytes that it gave decided anything: they could be the front of a backup.
+    ensures cut { result ≡ Status.ReadFault → GaveAtMost 268435456 (S.left input.old) (S.left input.new) }
     ensures write { result ≡ Status.WriteFault → Rose (O.fault_count output.old) (O.fault_count output.new) }
 {
     let ending = check_ending(rt, alloc, input);

@@ -1,7 +1,7 @@
 ghost use Rattle.std.specs.Prelude.{◌≡◌, ◌≢◌, ◌≤◌, ◌<◌, ◌+◌, [], length, true, false, vec_len, vec_capacity, IfOk, IfErr, OnOk, OnErr, IsErrOf};
 ghost use Rattle.std.specs.Io.KnownBytes.{prepend_known, Keeps, IsAtEnd};
 ghost use Rattle.ens_base.specs.Causes.{Rose};
-ghost use Rattle.backup_job.specs.Printed.{IsTooLong};
+ghost use Rattle.backup_job.specs.Printed.{GaveAtMost, IsTooLong};
 
 use ens_base::Failed;
 use ens_outside::Source;
@@ -49,6 +49,7 @@ fn fill<S: Source>(bytes: &mut Vec<u8>, input: &mut S) -> Result<bool, InputErro
     ensures later { S.fault_count input.old ≤ S.fault_count input.new }
     ensures failed { IsErrOf result InputError.Failed → Rose (S.fault_count input.old) (S.fault_count input.new) }
     ensures short { IfErr result (λ e. e ≢ InputError.TooLong) }
+    ensures err { OnErr result (vec_len bytes.new ≡ vec_len bytes.old) }
 {
     let size = (MOST_BYTES + 1 - bytes.len()).min(PIECE);
     if make_room(bytes, size).is_err() {
@@ -64,12 +65,15 @@ fn fill<S: Source>(bytes: &mut Vec<u8>, input: &mut S) -> Result<bool, InputErro
     }
 }
 
-/// Reads the input to its end, or to the first byte that a backup may not have.
+/// Reads the input to its end, or to the first byte that a backup may not have. However it ends, it takes no more
+/// bytes than these; if the input failed, none of those that it gave was one too many.
 pub(crate) fn read_all<S: Source>(alloc: Global, input: &mut S) -> Result<Vec<u8>, InputError>
     ensures read { IfOk result (λ v. Keeps (S.left input.old) (prepend_known v.items (S.left input.new))) }
     ensures end { IfOk result (λ v. IsAtEnd (S.left input.new)) }
     ensures most { IfOk result (λ v. length v.items ≤ 268435456) }
     ensures long { IsErrOf result InputError.TooLong → IsTooLong (S.left input.old) }
+    ensures taken { GaveAtMost 268435457 (S.left input.old) (S.left input.new) }
+    ensures cut { IsErrOf result InputError.Failed → GaveAtMost 268435456 (S.left input.old) (S.left input.new) }
     ensures later { S.fault_count input.old ≤ S.fault_count input.new }
     ensures failed { IsErrOf result InputError.Failed → Rose (S.fault_count input.old) (S.fault_count input.new) }
 {

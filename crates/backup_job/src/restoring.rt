@@ -7,7 +7,7 @@ ghost use Rattle.tree_maps.specs.Entries.{IsMap};
 ghost use Rattle.tree_node.specs.Entries.{AreAbove};
 ghost use Rattle.tree_backup.specs.Items.{KeysAbove};
 ghost use Rattle.backup_job.specs.Disks.{Between};
-ghost use Rattle.backup_job.specs.Printed.{HasRead};
+ghost use Rattle.backup_job.specs.Printed.{GaveAtMost, HasRead};
 ghost use Rattle.backup_job.specs.Restored.{EndsWritten, Restored, RestoresTo, Rewrites};
 
 use crate::checking::read_content;
@@ -98,6 +98,8 @@ fn read_and_write<S: Source, D: Disk, R: Threads + Sync>(
     ensures restored { RestoresTo D.seen D.fault_count (S.left input.old) disks result.disks result.ending }
     ensures end { IfOk result.ending (λ e. e.status ≡ Status.Done → IsAtEnd (S.left input.new)) }
     ensures read { IfOk result.ending (λ e. e.status ≡ Status.ReadFault → Rose (S.fault_count input.old) (S.fault_count input.new)) }
+    ensures taken { GaveAtMost 268435457 (S.left input.old) (S.left input.new) }
+    ensures cut { IfOk result.ending (λ e. e.status ≡ Status.ReadFault → GaveAtMost 268435456 (S.left input.old) (S.left input.new)) }
 {
     let content = match read_content(rt, alloc, input) {
         Ok(content) => content,
@@ -137,6 +139,10 @@ pub fn restore_disks<S: Source, D: Disk + Drop, O: Sink, R: Threads + Sync>(
     ensures front { result ≡ Status.WriteFault → (status : Status) × (text : List ℕ) × Between nodes.old objects.old nodes.new objects.new (λ old new. Restored D.seen D.fault_count (S.left input.old) old new status text) × HasRead (S.left input.old) (S.left input.new) (S.fault_count input.old) (S.fault_count input.new) status × AppendsFront (O.written output.old) (O.written output.new) text }
     ensures input { result ≢ Status.WriteFault → HasRead (S.left input.old) (S.left input.new) (S.fault_count input.old) (S.fault_count input.new) result }
     ensures read { result ≡ Status.ReadFault → Rose (S.fault_count input.old) (S.fault_count input.new) }
+    // However it ends, it took at most one byte more than a backup may have.
+    ensures taken { GaveAtMost 268435457 (S.left input.old) (S.left input.new) }
+    // The input failed before the bytes that it gave decided anything: they could be the front of a backup.
+    ensures cut { result ≡ Status.ReadFault → GaveAtMost 268435456 (S.left input.old) (S.left input.new) }
     ensures write { result ≡ Status.WriteFault → Rose (O.fault_count output.old) (O.fault_count output.new) }
     ensures there { IsSome nodes.new × IsSome objects.new }
 {
