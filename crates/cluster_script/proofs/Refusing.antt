@@ -1,12 +1,12 @@
 -- Why a script is refused, by the errors of its lines.
-use Rattle.std.proofs.Common.{◌≡◌, ◌∙◌, ◌==◌, ◌+◌, ◌<◌, ℕ, Bool, true, false, List, [], ◌∷◌, ◌++◌, length, length-append, Option, Result, Ok, Err, refl, sym, ap, subst}
+use Rattle.std.proofs.Common.{◌≡◌, ◌∙◌, ◌==◌, ◌+◌, ◌<◌, ℕ, Bool, true, false, List, [], ◌∷◌, ◌++◌, length, length-append, Option, Result, Ok, Err, refl, sym, ap}
 use Rattle.std.specs.Prelude.{if◌then◌else◌}
 use Rattle.std.specs.Io.KnownBytes.{Consumes}
 use Rattle.ens_base.specs.Results.{◌>>=◌}
 use Rattle.ens_outside.specs.Lines.{BeginsLong, HasNoFeed}
 use Rattle.ens_outside.specs.declared.lines.NextError.{NextError}
 use Rattle.ens_outside.specs.declared.lines.NextError.TheVariants as next
-use Rattle.line_reading.specs.Reading.{ReadsAs, ReadsOn}
+use Rattle.line_reading.specs.Reading.{ReadsOn}
 use Rattle.line_reading.proofs.Parts.{line_refused, long_refused, reads_as}
 use Rattle.schedule_words.specs.declared.cause.Cause.{Cause}
 use Rattle.schedule_words.specs.declared.cause.Cause.TheVariants.{Repeated, Unfinished}
@@ -35,11 +35,6 @@ module _ (peers : ℕ) where
   refuses_long a lines (Bad line cause) begins bad = long_refused (next_line peers) ended a lines (Bad line cause) begins bad
   refuses_long a lines Lines begins bad = long_refused (next_line peers) ended a lines Lines begins bad
   refuses_long a lines Memory begins bad = tt
-
-  pub refuses_rest : (a : Option (List ℕ)) (lines : List ScriptLine) (v : List ℕ) (e : ScheduleError) → ended lines v ≡ Err e → ReadsAs (next_line peers) ended a lines (ended lines v) → Refuses peers a lines (of_schedule e)
-  refuses_rest a lines v (Bad line cause) is reads = subst (λ (r : Result (List ScriptLine) ScheduleError). ReadsAs (next_line peers) ended a lines r) is reads
-  refuses_rest a lines v Lines is reads = subst (λ (r : Result (List ScriptLine) ScheduleError). ReadsAs (next_line peers) ended a lines r) is reads
-  refuses_rest a lines v Memory is reads = tt
 
   pub refuses_later : (a b : Option (List ℕ)) (s t : List ScriptLine) (e : ReadError) → ReadsOn (next_line peers) ended a s b t → Refuses peers b t e → Refuses peers a s e
   refuses_later a b s t (read.Bad line cause) on bad = reads_as (next_line peers) ended a b s t (Err (Bad line cause)) on bad

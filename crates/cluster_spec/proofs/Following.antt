@@ -2,8 +2,7 @@
 use Rattle.std.proofs.Common.{◌≡◌, ◌≤◌, ◌+◌, ◌∙◌, ℕ, zero, suc, List, [], ◌∷◌, ◌++◌, length, take, drop, Option, refl, sym, ap, subst, append_assoc, append-nil, arith, length-append}
 use Rattle.cluster_script.specs.declared.line.ScriptLine.{ScriptLine}
 use Rattle.cluster_script.specs.declared.line.ScriptLine.TheVariants.{Event, Turn}
-use Rattle.cluster_spec.specs.Recordings.{Follows, IsPart, Recording, heard, heard_all, recorded}
-use Rattle.schedule_text.specs.declared.event.ScheduleEvent.{ScheduleEvent}
+use Rattle.cluster_spec.specs.Recordings.{Follows, IsPart, Recording, heard, heard_all}
 
 abbrev Given : Type 0
 Given = List (Option (List ℕ))
@@ -39,9 +38,6 @@ pub record Leads (done : List ScriptLine) (looks : Given) (first r : Recording) 
 
 pub leads_none : (r : Recording) → Leads [] [] r r
 leads_none r = record { on = λ part more s follows. follows }
-
-pub leads_event : (event : ScheduleEvent) (r : Recording) → Leads (Event event ∷ []) [] r (recorded event r)
-leads_event event r = record { on = λ part more s follows. follows }
 
 pub leads_turn : (count : ℕ) (looks : Given) (r : Recording) → length looks ≡ count → Leads (Turn count ∷ []) looks r (heard_all looks r)
 leads_turn count looks r is = record { on = λ part more s follows. turn_then count part looks more r s is follows }
