@@ -47,8 +47,10 @@ def counted(words, given, room):
     at = dict(zip(events, map(int, totals)))
     listed = ["callgrind_annotate", "--show=I1mr", "--sort=I1mr", "--threshold=60", out]
     shown = subprocess.run(listed, capture_output=True, text=True, errors="replace").stdout
-    names = re.findall(r"^ *[\d,]+ \([^)]*\) +\S*:(\S.*?)(?: \[.*)?$", shown, re.M)
-    return at["Ir"], at["I1mr"], at["D1mr"] + at["D1mw"], [it[:40] for it in names[:3]]
+    paths = re.findall(r"^ *[\d,]+ \([^)]*\) +\S*?:(\S.*?)(?: \[.*)?$", shown, re.M)
+    # A path may end in the digest of its type arguments.
+    names = ["::".join(re.sub(r"::<#\w+>", "", path).split("::")[-2:]) for path in paths]
+    return at["Ir"], at["I1mr"], at["D1mr"] + at["D1mw"], names[:3]
 
 
 def main():

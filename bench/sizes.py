@@ -127,7 +127,7 @@ CASES = {
     "replay-nine-peers": ("replay", lines(lambda: overwrites("ensemble 3\n" + NINE, 31_200, 31_200, "calm\n"))),
     "replay-one-key": ("replay", lines(lambda: overwrites("ensemble 3\n" + NINE, 31_200, 1, "calm\n"))),
     "audit-longest-lines": ("audit", lines(records)),
-    "audit-long-histories": ("audit", lines(lambda: long_histories(40))),
+    "audit-long-histories": ("audit", lines(lambda: long_histories(60))),
     "root": ("root", lines(root_script)),
     "cluster": ("cluster 1 40000 1", lines(lambda: list(overwrites("", MOST_LINES - 4, MOST_LINES)))),
     "generate": ("generate 7 20000 schedule", lambda: ()),
