@@ -30,8 +30,8 @@ from running import DONE, GET, Ensemble, differs, get, over
 
 PEERS, VIEW = 3, (2, 3)
 
-# A turn without a frame takes a millisecond or more: so long a peer waits for its datagrams.
-IDLE_TURNS = 6000
+# A turn without a frame takes a millisecond or more: so long a peer waits for its datagrams, and for each batch of them.
+IDLE_TURNS, IDLE_TURNS_EACH = 6000, 30
 KEY = spell_key(b"k")
 EPOCH, ROUND = spell_epoch((1, 2)), struct.pack(">Q", 1)
 OBJECT = Object((1, 2, 1), (1, 2, 1), b"k", b"v")
@@ -151,7 +151,7 @@ def counts_rightly(data, **limits):
     batches = list(batches_of(data))
     taken = len(batches) + sum(is_taken(it, 1, PEERS) for it in data)
     with Ensemble(PEERS, VIEW) as it:
-        it.start(1, turns=len(data) + len(batches) + IDLE_TURNS, **limits)
+        it.start(1, turns=len(data) + (1 + IDLE_TURNS_EACH) * len(batches) + IDLE_TURNS, **limits)
         it.client.peer = 1
         for number, batch in enumerate(batches):
             for datagram in batch:
