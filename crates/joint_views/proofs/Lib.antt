@@ -1,3 +1,4 @@
+pub mod Everyone
 pub mod Majorities
 pub mod Memberships
 pub mod Sets

@@ -17,9 +17,6 @@ pub record HasJoined (view : List ℕ) (before set : List Bool) : Type 0 where
   pub at : (p : ℕ) → holds set p ≡ (is_in view p || holds before p)
   pub none : holds before 0 ≡ false → holds set 0 ≡ false
 
-pub joined_none : (before : List Bool) → HasJoined [] before before
-joined_none before = record { size = refl; at = λ p. refl; none = λ h. h }
-
 in_end : (view : List ℕ) (m p : ℕ) → is_in (view ++ m ∷ []) p ≡ (p == m || is_in view p)
 in_end [] m p = refl
 in_end (x ∷ view) m p = ap (λ b. p == x || b) (in_end view m p) ∙ swapped (p == x) (p == m) (is_in view p)

@@ -1,4 +1,4 @@
-ghost use Rattle.std.specs.Prelude.{◌≡◌, ◌↔◌, ◌≤◌, ◌==◌, ◌||◌, ℕ, IsTrue, Contains, count_by, length, replicate, true, false};
+ghost use Rattle.std.specs.Prelude.{◌≡◌, ◌↔◌, ◌≤◌, ◌==◌, ◌||◌, ℕ, IsTrue, length, replicate, true, false};
 ghost use Rattle.ens_base.specs.Lists.{is_in as is_in_list};
 ghost use Rattle.ens_base.specs.PeerSet.{holds};
 ghost use Rattle.joint_views.specs.Members.{members as members_of};
@@ -30,6 +30,7 @@ fn is_majority(votes: &PeerSet, view: &View) -> bool
 fn has_all(votes: &PeerSet, view: &View) -> bool
     ensures test { result ≡ has_all_of (holds votes.now) view.now }
     ensures all { IsTrue result ↔ HasAll (holds votes.now) view.now }
+    ensures majority { IsTrue result → is_majority (holds votes.now) view.now ≡ true }
 {
     view.members()
         .iter()
@@ -124,10 +125,12 @@ impl Tally {
         has_all(&self.votes, &view)
     }
 
-    /// Returns whether all members of all views voted.
+    /// Returns whether all members of all views voted. They are a quorum, since every view has a
+    /// member.
     pub fn has_every(&self) -> bool
         ensures test { result ≡ has_every (holds self.now.votes) self.now.views }
         ensures every { IsTrue result ↔ HasEvery (holds self.now.votes) self.now.views }
+        ensures quorum { IsTrue result → is_quorum (holds self.now.votes) self.now.views ≡ true }
     {
         let first = self.views.first();
         match self.views.second() {

@@ -2,7 +2,6 @@
 use Rattle.std.specs.Prelude.{◌≡◌, ℕ, Bool, true, false, ◌==◌, ◌||◌, if◌then◌else◌, List, replicate}
 use Rattle.ens_base.specs.PeerSet.{holds}
 use Rattle.joint_views.specs.Quorums.{is_quorum, has_every, voted, IsMember, HasEvery}
-use Rattle.joint_views.specs.declared.tally.Tally.{Tally}
 use Rattle.quorum_round.specs.declared.round.Round.{Round}
 use Rattle.quorum_round.specs.declared.round.RoundState.{RoundState}
 use Rattle.quorum_round.specs.declared.round.RoundState.TheVariants.{Open, Met, AllAnswered}

@@ -1,4 +1,4 @@
-ghost use Rattle.std.specs.Prelude.{◌≡◌, ◌↔◌, true, false, replicate};
+ghost use Rattle.std.specs.Prelude.{◌≡◌, true, false, replicate};
 ghost use Rattle.ens_base.specs.PeerSet.{holds};
 ghost use Rattle.joint_views.specs.Quorums.{is_quorum, HasEvery};
 ghost use Rattle.quorum_round.specs.Rounds.{AreWith, IsState, answered, begun, state_of};
@@ -22,17 +22,6 @@ pub enum RoundState {
 pub struct Round {
     /// The answers, as votes.
     pub tally: Tally,
-}
-
-/// If all members of all views voted, they are a quorum, since every view has a member.
-fn all_are_a_quorum(tally: &Tally)
-    ensures { HasEvery (holds tally.now.votes) tally.now.views → is_quorum (holds tally.now.votes) tally.now.views ≡ true }
-{
-    let first = tally.views.first();
-    let _ = first.members();
-    if let Some(old) = tally.views.second() {
-        let _ = old.members();
-    }
 }
 
 impl Round {
@@ -67,13 +56,12 @@ impl Round {
         ensures open { is_quorum (holds self.now.tally.votes) self.now.tally.views ≡ false → result ≡ RoundState.Open }
         ensures all { HasEvery (holds self.now.tally.votes) self.now.tally.views → result ≡ RoundState.AllAnswered }
     {
-        all_are_a_quorum(&self.tally);
-        if !self.tally.is_quorum() {
-            RoundState::Open
-        } else if self.tally.has_every() {
+        if self.tally.has_every() {
             RoundState::AllAnswered
-        } else {
+        } else if self.tally.is_quorum() {
             RoundState::Met
+        } else {
+            RoundState::Open
         }
     }
 }
