@@ -1,6 +1,7 @@
 ghost use Rattle.std.specs.Prelude.{◌≡◌, ◌++◌, OnOk, codes, string_bytes};
 ghost use Rattle.std.specs.Fmt.{decimal};
 ghost use Rattle.ens_base.specs.Words.{bytes_word, epoch_word, version_word};
+ghost use Rattle.wire_frames.specs.declared.message.Message.TheVariants.{Nack};
 ghost use Rattle.message_labels.specs.Labels.{cause_words, found_word, label, position_word, trust_words};
 
 use ens_base::{Entry, Epoch, Key, Version, push_bytes};
@@ -68,6 +69,26 @@ fn push_cause(text: &mut String, cause: NackCause) -> Result<(), AllocError>
     }
 }
 
+fn push_nack(text: &mut String, ballot: Epoch, cause: NackCause) -> Result<(), AllocError>
+    ensures { OnOk result (string_bytes text.new ≡ string_bytes text.old ++ label (Nack ballot cause)) }
+{
+    push_epoch(text, "Nack", ballot)?;
+    text.push_str(", ")?;
+    push_cause(text, cause)
+}
+
+fn push_node(
+    text: &mut String,
+    name: &str,
+    epoch: Epoch,
+    position: Position,
+) -> Result<(), AllocError>
+    ensures { OnOk result (string_bytes text.new ≡ string_bytes text.old ++ name.now ++ codes " " ++ epoch_word epoch ++ codes " " ++ position_word position) }
+{
+    write!(text, "{name} {epoch} ")?;
+    push_position(text, position)
+}
+
 fn trust_word(trusted: bool) -> &'static str
     ensures { result.now ≡ trust_words trusted }
 {
@@ -90,11 +111,7 @@ pub fn push_label(alloc: Global, text: &mut String, message: &Message) -> Result
         Message::ProbeReply(fact) => push_epoch(text, "ProbeReply", fact.epoch),
         Message::Prepare(ballot) => push_epoch(text, "Prepare", *ballot),
         Message::Promise(ballot, _) => push_epoch(text, "Promise", *ballot),
-        Message::Nack(ballot, cause) => {
-            push_epoch(text, "Nack", *ballot)?;
-            text.push_str(", ")?;
-            push_cause(text, *cause)
-        }
+        Message::Nack(ballot, cause) => push_nack(text, *ballot, *cause),
         Message::NewEpoch(fact) => push_epoch(text, "NewEpoch", fact.epoch),
         Message::Accepted(epoch, seq) => write!(text, "Accepted {epoch}, {seq}"),
         Message::Get(_, _, key) => push_key(alloc, text, "Get", key),
@@ -109,13 +126,9 @@ pub fn push_label(alloc: Global, text: &mut String, message: &Message) -> Result
         }
         Message::Check(epoch, _) => push_epoch(text, "Check", *epoch),
         Message::CheckReply(epoch, _) => push_epoch(text, "CheckReply", *epoch),
-        Message::TreeAsk(epoch, position, _) => {
-            write!(text, "TreeAsk {epoch} ")?;
-            push_position(text, *position)
-        }
+        Message::TreeAsk(epoch, position, _) => push_node(text, "TreeAsk", *epoch, *position),
         Message::TreeGive(epoch, position, _, trusted, _) => {
-            write!(text, "TreeGive {epoch} ")?;
-            push_position(text, *position)?;
+            push_node(text, "TreeGive", *epoch, *position)?;
             text.push_str(trust_word(*trusted))
         }
         Message::Commit(fact) => push_epoch(text, "Commit", fact.epoch),

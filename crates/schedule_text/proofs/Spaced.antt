@@ -1,5 +1,5 @@
 -- Words behind a first one, joined by spaces.
-use Rattle.std.proofs.Common.{◌≡◌, ℕ, List, [], ◌∷◌, ◌++◌, codes, sym, ap, ◌∙◌, append_assoc, append-nil}
+use Rattle.std.proofs.Common.{◌≡◌, ℕ, List, [], ◌∷◌, ◌++◌, Result, Ok, Err, OnOk, codes, sym, ap, ◌∙◌, append_assoc, append-nil}
 use Rattle.std.specs.List.{join_with_byte}
 use Rattle.schedule_text.specs.Writing.{feeds, spaced}
 
@@ -17,3 +17,10 @@ pub heading_written : (old a b c d e f ensemble peers view : List ℕ) → a ≡
 heading_written old a b c d e f ensemble peers view o p q r s t =
     t ∙ ap (λ (x : List ℕ). x ++ 10 ∷ []) (s ∙ ap (λ (x : List ℕ). x ++ view) (r ∙ ap (λ (x : List ℕ). x ++ 10 ∷ []) (q ∙ ap (λ (x : List ℕ). x ++ peers) (p ∙ ap (λ (x : List ℕ). x ++ 10 ∷ []) o))))
     ∙ simp (append_assoc, append-nil)
+
+-- a line, written in two pieces: its first word, then those behind it
+pub line_written : {E : Type 0} (written : Result (Unit {0}) E) (old a b word : List ℕ) (more words : List (List ℕ)) → a ≡ old ++ word → OnOk written (b ≡ a ++ spaced more) → words ≡ word ∷ more
+    → OnOk written (b ≡ old ++ join_with_byte 32 words)
+line_written (Ok done) old a b word more words first rest is =
+    rest ∙ ap (λ (x : List ℕ). x ++ spaced more) first ∙ append_join old word more ∙ ap (λ (x : List (List ℕ)). old ++ join_with_byte 32 x) (sym is)
+line_written (Err e) old a b word more words first rest is = tt

@@ -123,6 +123,10 @@ revert_of peers words = do
   changes ← number_of 1 1000000 w.1
   Ok (Revert peer changes)
 
+-- nothing
+abbrev pub deepen_of : List (List ℕ) → Result ScheduleEvent Cause
+deepen_of words = none_of words >>= λ _. Ok Deepen
+
 -- P STORE OLD
 abbrev pub fail_of : ℕ → List (List ℕ) → Result ScheduleEvent Cause
 fail_of peers words = do
@@ -144,7 +148,7 @@ keyword_event peers line.Change words = change_of peers words
 keyword_event peers line.Stop words = one_peer_of peers words >>= λ peer. Ok (Stop peer)
 keyword_event peers line.Start words = one_peer_of peers words >>= λ peer. Ok (Start peer)
 keyword_event peers line.Upgrade words = one_peer_of peers words >>= λ peer. Ok (Upgrade peer)
-keyword_event peers line.Deepen words = none_of words >>= λ _. Ok Deepen
+keyword_event peers line.Deepen words = deepen_of words
 keyword_event peers line.Spoil words = placed_of peers words >>= λ x. Ok (Spoil x.0 x.1 x.2)
 keyword_event peers line.Damage words = placed_of peers words >>= λ x. Ok (Damage x.0 x.1 x.2)
 keyword_event peers line.Inner words = inner_of peers words

@@ -7,5 +7,6 @@ pub mod Arguments
 pub mod Events
 pub mod Writing
 pub mod Spelling
+pub mod Plain
 pub mod Progress
 pub mod Reading

@@ -1,5 +1,5 @@
 -- How a schedule is written, and what may stand in one.
-use Rattle.std.specs.Prelude.{ℕ, ◌+◌, ◌<◌, ◌≤◌, ◌^◌, List, [], ◌∷◌, length, map, codes}
+use Rattle.std.specs.Prelude.{ℕ, ◌+◌, ◌<◌, ◌≤◌, ◌^◌, List, [], ◌∷◌, length, map, drop, codes}
 use Rattle.std.specs.Fmt.{decimal}
 use Rattle.std.specs.List.{join_with_byte}
 use Rattle.ens_base.specs.Limits.{IsKey, IsCommand}
@@ -61,6 +61,10 @@ event_words (Damage peer key bytes) = keyword_word line.Damage ∷ decimal peer 
 event_words (Inner peer level index bytes) = keyword_word line.Inner ∷ decimal peer ∷ decimal level ∷ decimal index ∷ content_word bytes ∷ []
 event_words (Revert peer changes) = keyword_word line.Revert ∷ decimal peer ∷ decimal changes ∷ []
 event_words (Fail peer store survivor) = keyword_word line.Fail ∷ decimal peer ∷ store_word store ∷ survivor_word survivor ∷ []
+
+-- the words of an event behind its keyword
+abbrev pub argument_words : ScheduleEvent → List (List ℕ)
+argument_words event = drop 1 (event_words event)
 
 -- an event, as a line without its line feed: its words with single spaces between them
 abbrev pub event_line : ScheduleEvent → List ℕ

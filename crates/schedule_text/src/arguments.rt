@@ -1,4 +1,4 @@
-ghost use Rattle.std.specs.Prelude.{◌≡◌, map};
+ghost use Rattle.std.specs.Prelude.{◌≡◌};
 ghost use Rattle.schedule_text.specs.Arguments.{has_empty, none_of, one_of, two_of, three_of, four_of, some_of, first_of};
 ghost use Rattle.schedule_text.specs.Texts.{texts, one_text, two_texts, three_texts, four_texts, some_texts, first_texts};
 

@@ -1,4 +1,4 @@
-ghost use Rattle.std.specs.Prelude.{◌≡◌, ◌+◌, ◌<◌, ◌^◌, length, Option, map};
+ghost use Rattle.std.specs.Prelude.{◌<◌};
 ghost use Rattle.schedule_words.specs.Causes.{Gives};
 ghost use Rattle.schedule_text.specs.Texts.{texts};
 ghost use Rattle.schedule_text.specs.Events.{operation_of, call_from, call_named, call_of};

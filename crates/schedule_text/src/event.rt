@@ -1,6 +1,10 @@
-ghost use Rattle.std.specs.Prelude.{◌≡◌, IfOk};
+ghost use Rattle.std.specs.Prelude.{◌≡◌, ◌∷◌, IfOk};
+ghost use Rattle.schedule_text.specs.Keywords.{keyword_word};
+ghost use Rattle.schedule_text.specs.Plain.{IsPlain};
+ghost use Rattle.schedule_text.specs.Spelling.{argument_words, event_words};
+ghost use Rattle.schedule_text.specs.declared.event.ScheduleEvent.TheVariants.{CalmAmong};
 
-use crate::keyword::{StoreName, Survivor};
+use crate::keyword::{Keyword, StoreName, Survivor};
 use ens_base::{Bytes, Command, CopyError, Key, PeerId, Seq, View};
 use std::alloc::{AllocError, Global};
 
@@ -92,10 +96,12 @@ pub enum ScheduleEvent {
     },
 }
 
-fn copy_members(alloc: Global, members: &Seq<PeerId>) -> Result<Seq<PeerId>, AllocError>
-    ensures { IfOk result (λ m. m ≡ members.now) }
+// The event of a calm among these members.
+fn copy_calm(alloc: Global, members: &Seq<PeerId>) -> Result<ScheduleEvent, AllocError>
+    ensures { IfOk result (λ event. event ≡ CalmAmong members.now) }
 {
-    Ok(Seq::new(Vec::from_slice(alloc, members.as_slice())?))
+    let members = Seq::new(Vec::from_slice(alloc, members.as_slice())?);
+    Ok(ScheduleEvent::CalmAmong { members })
 }
 
 fn copy_content(alloc: Global, bytes: &Option<Bytes>) -> Result<Option<Bytes>, AllocError>
@@ -124,31 +130,7 @@ impl ScheduleEvent {
                 key: key.copy(alloc)?,
                 command: command.copy(alloc)?,
             },
-            ScheduleEvent::Tick { peer, ticks } => ScheduleEvent::Tick {
-                peer: *peer,
-                ticks: *ticks,
-            },
-            ScheduleEvent::Deliver { message } => ScheduleEvent::Deliver { message: *message },
-            ScheduleEvent::Pass { sender, receiver } => ScheduleEvent::Pass {
-                sender: *sender,
-                receiver: *receiver,
-            },
-            ScheduleEvent::Lose { sender, receiver } => ScheduleEvent::Lose {
-                sender: *sender,
-                receiver: *receiver,
-            },
-            ScheduleEvent::Calm => ScheduleEvent::Calm,
-            ScheduleEvent::CalmAmong { members } => ScheduleEvent::CalmAmong {
-                members: copy_members(alloc, members)?,
-            },
-            ScheduleEvent::Change { peer, view } => ScheduleEvent::Change {
-                peer: *peer,
-                view: *view,
-            },
-            ScheduleEvent::Stop { peer } => ScheduleEvent::Stop { peer: *peer },
-            ScheduleEvent::Start { peer } => ScheduleEvent::Start { peer: *peer },
-            ScheduleEvent::Upgrade { peer } => ScheduleEvent::Upgrade { peer: *peer },
-            ScheduleEvent::Deepen => ScheduleEvent::Deepen,
+            ScheduleEvent::CalmAmong { members } => copy_calm(alloc, members)?,
             ScheduleEvent::Spoil { peer, key, bytes } => ScheduleEvent::Spoil {
                 peer: *peer,
                 key: key.copy(alloc)?,
@@ -170,19 +152,61 @@ impl ScheduleEvent {
                 index: *index,
                 bytes: copy_content(alloc, bytes)?,
             },
-            ScheduleEvent::Revert { peer, changes } => ScheduleEvent::Revert {
-                peer: *peer,
-                changes: *changes,
-            },
+            _ => self.copy_plain(),
+        })
+    }
+
+    /// An equal event, of one that owns no memory.
+    fn copy_plain(&self) -> ScheduleEvent
+        requires { IsPlain self.now }
+        ensures { result ≡ self.now }
+    {
+        match *self {
+            ScheduleEvent::Tick { peer, ticks } => ScheduleEvent::Tick { peer, ticks },
+            ScheduleEvent::Deliver { message } => ScheduleEvent::Deliver { message },
+            ScheduleEvent::Pass { sender, receiver } => ScheduleEvent::Pass { sender, receiver },
+            ScheduleEvent::Lose { sender, receiver } => ScheduleEvent::Lose { sender, receiver },
+            ScheduleEvent::Calm => ScheduleEvent::Calm,
+            ScheduleEvent::Change { peer, view } => ScheduleEvent::Change { peer, view },
+            ScheduleEvent::Stop { peer } => ScheduleEvent::Stop { peer },
+            ScheduleEvent::Start { peer } => ScheduleEvent::Start { peer },
+            ScheduleEvent::Upgrade { peer } => ScheduleEvent::Upgrade { peer },
+            ScheduleEvent::Deepen => ScheduleEvent::Deepen,
+            ScheduleEvent::Revert { peer, changes } => ScheduleEvent::Revert { peer, changes },
             ScheduleEvent::Fail {
                 peer,
                 store,
                 survivor,
             } => ScheduleEvent::Fail {
-                peer: *peer,
-                store: *store,
-                survivor: *survivor,
+                peer,
+                store,
+                survivor,
             },
-        })
+            _ => unreachable!(),
+        }
+    }
+
+    /// The first word of its line.
+    pub(crate) fn keyword(&self) -> Keyword
+        ensures { event_words self.now ≡ keyword_word result ∷ argument_words self.now }
+    {
+        match self {
+            ScheduleEvent::Call { .. } => Keyword::Call,
+            ScheduleEvent::Tick { .. } => Keyword::Tick,
+            ScheduleEvent::Deliver { .. } => Keyword::Deliver,
+            ScheduleEvent::Pass { .. } => Keyword::Pass,
+            ScheduleEvent::Lose { .. } => Keyword::Lose,
+            ScheduleEvent::Calm | ScheduleEvent::CalmAmong { .. } => Keyword::Calm,
+            ScheduleEvent::Change { .. } => Keyword::Change,
+            ScheduleEvent::Stop { .. } => Keyword::Stop,
+            ScheduleEvent::Start { .. } => Keyword::Start,
+            ScheduleEvent::Upgrade { .. } => Keyword::Upgrade,
+            ScheduleEvent::Deepen => Keyword::Deepen,
+            ScheduleEvent::Spoil { .. } => Keyword::Spoil,
+            ScheduleEvent::Damage { .. } => Keyword::Damage,
+            ScheduleEvent::Inner { .. } => Keyword::Inner,
+            ScheduleEvent::Revert { .. } => Keyword::Revert,
+            ScheduleEvent::Fail { .. } => Keyword::Fail,
+        }
     }
 }

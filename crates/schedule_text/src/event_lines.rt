@@ -1,9 +1,9 @@
-ghost use Rattle.std.specs.Prelude.{◌≡◌, ◌+◌, ◌-◌, ◌<◌, ◌≤◌, ◌^◌, length, Option, Ok, map, IfOk};
+ghost use Rattle.std.specs.Prelude.{◌≡◌, ◌-◌, ◌<◌, ◌≤◌, ◌^◌, Option, Ok, IfOk};
 ghost use Rattle.schedule_words.specs.Causes.{Gives};
 ghost use Rattle.schedule_text.specs.Errors.{Answers, at_line};
 ghost use Rattle.schedule_text.specs.Spelling.{event_line, MayStand};
 ghost use Rattle.schedule_text.specs.Texts.{texts};
-ghost use Rattle.schedule_text.specs.Events.{tick_of, deliver_of, one_peer_of, two_peers_of, calm_of, change_of, placed_of, inner_of, revert_of, fail_of, keyword_event, words_event, event_of};
+ghost use Rattle.schedule_text.specs.Events.{tick_of, deliver_of, one_peer_of, two_peers_of, calm_of, change_of, placed_of, inner_of, revert_of, deepen_of, fail_of, keyword_event, words_event, event_of};
 
 use crate::arguments::{first, four, none, one, some, three, two};
 use crate::call_line::call;
@@ -125,6 +125,14 @@ fn revert(words: &[&[u8]], peers: u32) -> Result<ScheduleEvent, WordError>
     Ok(ScheduleEvent::Revert { peer, changes })
 }
 
+// nothing
+fn deepen(words: &[&[u8]]) -> Result<ScheduleEvent, WordError>
+    ensures { Gives (deepen_of (texts words.now)) result }
+{
+    none(words)?;
+    Ok(ScheduleEvent::Deepen)
+}
+
 // P STORE OLD
 fn fail(words: &[&[u8]], peers: u32) -> Result<ScheduleEvent, WordError>
     ensures { Gives (fail_of peers (texts words.now)) result }
@@ -162,22 +170,16 @@ fn keyword_event(
         }
         Keyword::Calm => calm(alloc, words, peers),
         Keyword::Change => change(alloc, words, peers),
-        Keyword::Stop => {
-            let peer = one_peer(words, peers)?;
-            Ok(ScheduleEvent::Stop { peer })
-        }
-        Keyword::Start => {
-            let peer = one_peer(words, peers)?;
-            Ok(ScheduleEvent::Start { peer })
-        }
-        Keyword::Upgrade => {
-            let peer = one_peer(words, peers)?;
-            Ok(ScheduleEvent::Upgrade { peer })
-        }
-        Keyword::Deepen => {
-            none(words)?;
-            Ok(ScheduleEvent::Deepen)
-        }
+        Keyword::Stop => Ok(ScheduleEvent::Stop {
+            peer: one_peer(words, peers)?,
+        }),
+        Keyword::Start => Ok(ScheduleEvent::Start {
+            peer: one_peer(words, peers)?,
+        }),
+        Keyword::Upgrade => Ok(ScheduleEvent::Upgrade {
+            peer: one_peer(words, peers)?,
+        }),
+        Keyword::Deepen => deepen(words),
         Keyword::Spoil => {
             let (peer, key, bytes) = placed(alloc, words, peers)?;
             Ok(ScheduleEvent::Spoil { peer, key, bytes })

@@ -1,5 +1,4 @@
-ghost use Rattle.std.specs.Prelude.{◌≡◌, map};
-ghost use Rattle.ens_base.specs.Lists.{same_bytes};
+ghost use Rattle.std.specs.Prelude.{◌≡◌};
 ghost use Rattle.schedule_words.specs.Causes.{Gives};
 ghost use Rattle.schedule_words.specs.Words.{words_of};
 ghost use Rattle.schedule_text.specs.Reading.{peers_of, opening_of};

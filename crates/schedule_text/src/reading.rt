@@ -1,5 +1,4 @@
 ghost use Rattle.std.specs.Prelude.{◌≡◌, ◌<◌, ◌≤◌, ◌+◌, ℕ, List, length, Err};
-ghost use Rattle.schedule_words.specs.Causes.{Gives};
 ghost use Rattle.schedule_text.specs.Events.{line_limit};
 ghost use Rattle.schedule_text.specs.Progress.{Blank, lines_so_far};
 ghost use Rattle.schedule_text.specs.Reading.{ended, finished, next_line, TakesLine, TakesWords};

@@ -1,19 +1,17 @@
-ghost use Rattle.std.specs.Prelude.{◌≡◌, ◌++◌, ◌∷◌, [], map, OnOk, OnErr, IfOk, IfErr, string_bytes};
+ghost use Rattle.std.specs.Prelude.{◌≡◌, ◌++◌, ◌∷◌, [], map, OnOk, IfOk, IfErr, string_bytes};
 ghost use Rattle.std.specs.Fmt.{decimal};
-ghost use Rattle.std.specs.List.{join_with_byte};
 ghost use Rattle.ens_base.specs.Words.{bytes_word, value_word, version_word};
 ghost use Rattle.schedule_words.specs.Spelling.{content_word, member_words};
-ghost use Rattle.schedule_text.specs.Keywords.{keyword_word, command_word};
-ghost use Rattle.schedule_text.specs.Spelling.{name_of, operand_words, event_line, peers_line, view_line, schedule_text, IsSchedule};
+ghost use Rattle.schedule_text.specs.Spelling.{name_of, operand_words, argument_words, event_line, peers_line, view_line, schedule_text, IsSchedule};
 ghost use Rattle.schedule_text.specs.Forms.{ensemble_line};
 ghost use Rattle.schedule_text.specs.Reading.{schedule_of};
-ghost use Rattle.schedule_text.specs.declared.event.ScheduleEvent.TheVariants.{Call, CalmAmong, Change, Inner, Fail};
+ghost use Rattle.schedule_text.specs.declared.event.ScheduleEvent.TheVariants.{Call, Change, Inner, Fail};
 ghost use Rattle.schedule_text.specs.Writing.{spaced, feeds};
 
 use crate::error::ScheduleError;
 use crate::event::ScheduleEvent;
 use crate::form::Form;
-use crate::keyword::{CommandName, Keyword, StoreName, Survivor};
+use crate::keyword::{CommandName, StoreName, Survivor};
 use crate::schedule::Schedule;
 use ens_base::{Bytes, Command, Key, PeerId, Version, View, push_bytes, push_value};
 use std::alloc::{AllocError, Global};
@@ -68,12 +66,19 @@ fn push_content(alloc: Global, out: &mut String, bytes: &Option<Bytes>) -> Resul
     }
 }
 
+// A space and a peer.
+fn push_peer(out: &mut String, peer: PeerId) -> Result<(), AllocError>
+    ensures { OnOk result (string_bytes out.new ≡ string_bytes out.old ++ (32 ∷ decimal peer)) }
+{
+    push_number(out, u64::from(peer.number()))
+}
+
 // The members, each behind a space.
 fn push_members(out: &mut String, members: &[PeerId]) -> Result<(), AllocError>
     ensures { OnOk result (string_bytes out.new ≡ string_bytes out.old ++ spaced (member_words members.now)) }
 {
     for member in members {
-        push_number(out, u64::from(member.number()))?;
+        push_peer(out, *member)?;
     }
     Ok(())
 }
@@ -84,17 +89,6 @@ fn push_members_of(out: &mut String, view: &View) -> Result<(), AllocError>
 {
     for member in view.members() {
         push_number(out, u64::from(*member))?;
-    }
-    Ok(())
-}
-
-// A line of a keyword and numbers.
-fn push_numbers(out: &mut String, keyword: &str, numbers: &[u64]) -> Result<(), AllocError>
-    ensures { OnOk result (string_bytes out.new ≡ string_bytes out.old ++ join_with_byte 32 (keyword.now ∷ map decimal numbers.now)) }
-{
-    out.push_str(keyword)?;
-    for number in numbers {
-        push_number(out, *number)?;
     }
     Ok(())
 }
@@ -135,7 +129,7 @@ fn command_name(command: &Command) -> CommandName
     }
 }
 
-// The line of a call.
+// The words of a call behind its keyword, each behind a space.
 fn push_call(
     alloc: Global,
     out: &mut String,
@@ -144,32 +138,47 @@ fn push_call(
     key: &Key,
     command: &Command,
 ) -> Result<(), AllocError>
-    ensures { OnOk result (string_bytes out.new ≡ string_bytes out.old ++ event_line (Call peer id key.now command.now)) }
+    ensures { OnOk result (string_bytes out.new ≡ string_bytes out.old ++ spaced (argument_words (Call peer id key.now command.now))) }
 {
-    push_numbers(out, Keyword::Call.word(), &[u64::from(peer.number()), id])?;
+    push_peer(out, peer)?;
+    push_number(out, id)?;
     push_word(out, command_name(command).word())?;
     push_key(alloc, out, key)?;
     push_operands(alloc, out, command)
 }
 
-// The line of a peer, a key and what a store is to hold.
+// A peer and a number, each behind a space.
+fn push_count(out: &mut String, peer: PeerId, count: u32) -> Result<(), AllocError>
+    ensures { OnOk result (string_bytes out.new ≡ string_bytes out.old ++ spaced (decimal peer ∷ decimal count ∷ [])) }
+{
+    push_peer(out, peer)?;
+    push_number(out, u64::from(count))
+}
+
+// Two peers, each behind a space.
+fn push_pair(out: &mut String, sender: PeerId, receiver: PeerId) -> Result<(), AllocError>
+    ensures { OnOk result (string_bytes out.new ≡ string_bytes out.old ++ spaced (decimal sender ∷ decimal receiver ∷ [])) }
+{
+    push_peer(out, sender)?;
+    push_peer(out, receiver)
+}
+
+// A peer, a key and what a store is to hold, each behind a space.
 fn push_placed(
     alloc: Global,
     out: &mut String,
-    keyword: Keyword,
     peer: PeerId,
     key: &Key,
     bytes: &Option<Bytes>,
 ) -> Result<(), AllocError>
-    ensures { OnOk result (string_bytes out.new ≡ string_bytes out.old
-        ++ join_with_byte 32 (keyword_word keyword ∷ decimal peer ∷ bytes_word key.now ∷ content_word bytes.now ∷ [])) }
+    ensures { OnOk result (string_bytes out.new ≡ string_bytes out.old ++ spaced (decimal peer ∷ bytes_word key.now ∷ content_word bytes.now ∷ [])) }
 {
-    push_numbers(out, keyword.word(), &[u64::from(peer.number())])?;
+    push_peer(out, peer)?;
     push_key(alloc, out, key)?;
     push_content(alloc, out, bytes)
 }
 
-// The line of an inner node.
+// The words of an inner node behind its keyword, each behind a space.
 fn push_inner(
     alloc: Global,
     out: &mut String,
@@ -178,74 +187,39 @@ fn push_inner(
     index: u32,
     bytes: &Option<Bytes>,
 ) -> Result<(), AllocError>
-    ensures { OnOk result (string_bytes out.new ≡ string_bytes out.old ++ event_line (Inner peer level index bytes.now)) }
+    ensures { OnOk result (string_bytes out.new ≡ string_bytes out.old ++ spaced (argument_words (Inner peer level index bytes.now))) }
 {
-    push_numbers(
-        out,
-        Keyword::Inner.word(),
-        &[u64::from(peer.number()), u64::from(level), u64::from(index)],
-    )?;
+    push_peer(out, peer)?;
+    push_number(out, u64::from(level))?;
+    push_number(out, u64::from(index))?;
     push_content(alloc, out, bytes)
 }
 
-// The line of a store that is to fail.
+// The words of a store that is to fail behind its keyword, each behind a space.
 fn push_fail(
     out: &mut String,
     peer: PeerId,
     store: StoreName,
     survivor: Survivor,
 ) -> Result<(), AllocError>
-    ensures { OnOk result (string_bytes out.new ≡ string_bytes out.old ++ event_line (Fail peer store survivor)) }
+    ensures { OnOk result (string_bytes out.new ≡ string_bytes out.old ++ spaced (argument_words (Fail peer store survivor))) }
 {
-    push_numbers(out, Keyword::Fail.word(), &[u64::from(peer.number())])?;
+    push_peer(out, peer)?;
     push_word(out, store.word())?;
     push_word(out, survivor.word())
 }
 
-// The line of a change of view.
-#[tactic(auto, using(crate::proofs::Spaced::append_join))]
+// The words of a change of view behind its keyword, each behind a space.
 fn push_change(out: &mut String, peer: PeerId, view: &View) -> Result<(), AllocError>
-    ensures { OnOk result (string_bytes out.new ≡ string_bytes out.old ++ event_line (Change peer view.now)) }
+    ensures { OnOk result (string_bytes out.new ≡ string_bytes out.old ++ spaced (argument_words (Change peer view.now))) }
 {
-    push_numbers(out, Keyword::Change.word(), &[u64::from(peer.number())])?;
+    push_peer(out, peer)?;
     push_members_of(out, view)
 }
 
-// The line of a calm among members.
-#[tactic(auto, using(crate::proofs::Spaced::append_join))]
-fn push_calm(out: &mut String, members: &[PeerId]) -> Result<(), AllocError>
-    ensures { OnOk result (string_bytes out.new ≡ string_bytes out.old ++ event_line (CalmAmong members.now)) }
-{
-    out.push_str(Keyword::Calm.word())?;
-    push_members(out, members)
-}
-
-// The line of two peers.
-fn push_pair(
-    out: &mut String,
-    keyword: Keyword,
-    sender: PeerId,
-    receiver: PeerId,
-) -> Result<(), AllocError>
-    ensures { OnOk result (string_bytes out.new ≡ string_bytes out.old ++ join_with_byte 32 (keyword_word keyword ∷ decimal sender ∷ decimal receiver ∷ [])) }
-{
-    push_numbers(
-        out,
-        keyword.word(),
-        &[u64::from(sender.number()), u64::from(receiver.number())],
-    )
-}
-
-// The line of one peer.
-fn push_peer(out: &mut String, keyword: Keyword, peer: PeerId) -> Result<(), AllocError>
-    ensures { OnOk result (string_bytes out.new ≡ string_bytes out.old ++ join_with_byte 32 (keyword_word keyword ∷ decimal peer ∷ [])) }
-{
-    push_numbers(out, keyword.word(), &[u64::from(peer.number())])
-}
-
-/// Appends the line of an event, without its line feed.
-pub fn push_event(alloc: Global, out: &mut String, event: &ScheduleEvent) -> Result<(), AllocError>
-    ensures { OnOk result (string_bytes out.new ≡ string_bytes out.old ++ event_line event.now) }
+// The words of an event behind its keyword, each behind a space.
+fn push_arguments(alloc: Global, out: &mut String, event: &ScheduleEvent) -> Result<(), AllocError>
+    ensures { OnOk result (string_bytes out.new ≡ string_bytes out.old ++ spaced (argument_words event.now)) }
 {
     match event {
         ScheduleEvent::Call {
@@ -254,68 +228,48 @@ pub fn push_event(alloc: Global, out: &mut String, event: &ScheduleEvent) -> Res
             key,
             command,
         } => push_call(alloc, out, *peer, *id, key, command),
-        ScheduleEvent::Tick { peer, ticks } => push_numbers(
-            out,
-            Keyword::Tick.word(),
-            &[u64::from(peer.number()), u64::from(*ticks)],
-        ),
-        ScheduleEvent::Deliver { message } => push_numbers(
-            out,
-            Keyword::Deliver.word(),
-            &[*message],
-        ),
-        ScheduleEvent::Pass { sender, receiver } => push_pair(
-            out,
-            Keyword::Pass,
-            *sender,
-            *receiver,
-        ),
-        ScheduleEvent::Lose { sender, receiver } => push_pair(
-            out,
-            Keyword::Lose,
-            *sender,
-            *receiver,
-        ),
-        ScheduleEvent::Calm => out.push_str(Keyword::Calm.word()),
-        ScheduleEvent::CalmAmong { members } => push_calm(out, members.as_slice()),
+        ScheduleEvent::Tick { peer, ticks } => push_count(out, *peer, *ticks),
+        ScheduleEvent::Deliver { message } => push_number(out, *message),
+        ScheduleEvent::Pass { sender, receiver } | ScheduleEvent::Lose { sender, receiver } => {
+            push_pair(out, *sender, *receiver)
+        }
+        ScheduleEvent::Calm | ScheduleEvent::Deepen => Ok(()),
+        ScheduleEvent::CalmAmong { members } => push_members(out, members.as_slice()),
         ScheduleEvent::Change { peer, view } => push_change(out, *peer, view),
-        ScheduleEvent::Stop { peer } => push_peer(out, Keyword::Stop, *peer),
-        ScheduleEvent::Start { peer } => push_peer(out, Keyword::Start, *peer),
-        ScheduleEvent::Upgrade { peer } => push_peer(out, Keyword::Upgrade, *peer),
-        ScheduleEvent::Deepen => out.push_str(Keyword::Deepen.word()),
-        ScheduleEvent::Spoil { peer, key, bytes } => push_placed(
-            alloc,
-            out,
-            Keyword::Spoil,
-            *peer,
-            key,
-            bytes,
-        ),
-        ScheduleEvent::Damage { peer, key, bytes } => push_placed(
-            alloc,
-            out,
-            Keyword::Damage,
-            *peer,
-            key,
-            bytes,
-        ),
+        ScheduleEvent::Stop { peer }
+        | ScheduleEvent::Start { peer }
+        | ScheduleEvent::Upgrade { peer } => push_peer(out, *peer),
+        ScheduleEvent::Spoil { peer, key, bytes } | ScheduleEvent::Damage { peer, key, bytes } => {
+            push_placed(alloc, out, *peer, key, bytes)
+        }
         ScheduleEvent::Inner {
             peer,
             level,
             index,
             bytes,
         } => push_inner(alloc, out, *peer, *level, *index, bytes),
-        ScheduleEvent::Revert { peer, changes } => push_numbers(
-            out,
-            Keyword::Revert.word(),
-            &[u64::from(peer.number()), u64::from(*changes)],
-        ),
+        ScheduleEvent::Revert { peer, changes } => push_count(out, *peer, *changes),
         ScheduleEvent::Fail {
             peer,
             store,
             survivor,
         } => push_fail(out, *peer, *store, *survivor),
     }
+}
+
+/// Appends the line of an event, without its line feed.
+pub fn push_event(alloc: Global, out: &mut String, event: &ScheduleEvent) -> Result<(), AllocError>
+    ensures { OnOk result (string_bytes out.new ≡ string_bytes out.old ++ event_line event.now) }
+{
+    out.push_str(event.keyword().word())?;
+    push_arguments(alloc, out, event)
+}
+
+// The line of the number of peers.
+fn push_peers(out: &mut String, peers: u32) -> Result<(), AllocError>
+    ensures { OnOk result (string_bytes out.new ≡ string_bytes out.old ++ peers_line peers) }
+{
+    write!(out, "peers {peers}")
 }
 
 // The line of the view that the peers open with.
@@ -333,7 +287,7 @@ fn push_heading(out: &mut String, form: Form, peers: u32, view: &View) -> Result
 {
     out.push_str(form.line())?;
     out.push_str("\n")?;
-    push_numbers(out, "peers", &[u64::from(peers)])?;
+    push_peers(out, peers)?;
     out.push_str("\n")?;
     push_view(out, view)?;
     out.push_str("\n")?;
