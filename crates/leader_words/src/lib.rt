@@ -10,6 +10,6 @@ mod out;
 
 pub use error::LeadError;
 pub use joint_views::members;
-pub use key_commands::{Note, Object, Verdict, apply, copy_object, on_absent, on_any, on_stamp};
+pub use key_commands::{Note, Object, Verdict, apply, on_absent, on_any, on_stamp};
 pub use out::{AnswerOut, LeadOut, Outgoing, Own, is_other_of};
 pub use phase_rows::Message;

@@ -1,4 +1,4 @@
-ghost use Rattle.std.specs.Prelude.{◌≡◌, ◌++◌, ◌∷◌, [], OnOk, IfOk};
+ghost use Rattle.std.specs.Prelude.{◌≡◌, OnOk, IfOk};
 ghost use Rattle.leader_words.specs.Outs.{comes, rests as rests_row, leaves as leaves_row, leads_on as leads_on_row, and_key, and_then, and_answer, and_note, and_send, and_own, asked_by as asked_by_rule};
 ghost use Rattle.leader_words.specs.Sends.{is_other_in, sent_up_to, tells_all as tells_all_row};
 

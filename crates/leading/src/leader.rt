@@ -1,7 +1,7 @@
-ghost use Rattle.std.specs.Prelude.{◌≡◌, ◌++◌, ◌∷◌, [], IsOk, OnOk, IfOk, map, false};
+ghost use Rattle.std.specs.Prelude.{◌≡◌, IsOk, OnOk, IfOk, map, false};
 ghost use Rattle.ens_base.specs.View.{IsPeer};
 ghost use Rattle.leading.specs.declared.pending.Pending.TheVariants as tasks;
-ghost use Rattle.leading.specs.Leaders.{new_leader, with_task, joined, knows, stands, base, settled_as, answered, read_answered, decided, concluded, is_spent, next_version};
+ghost use Rattle.leading.specs.Leaders.{new_leader, with_task, knows, stands, base, settled_as, answered, read_answered, decided, concluded, is_spent, next_version};
 ghost use Rattle.leading.specs.Ticks.{left_answer};
 ghost use Rattle.call_table.specs.Calls.{has_calls, running};
 ghost use Rattle.call_table.specs.Rows.{row_at};

@@ -2,7 +2,7 @@ ghost use Rattle.std.specs.Prelude.{◌≡◌, ◌+◌, ◌&&◌, IfOk, Some};
 ghost use Rattle.ens_base.specs.Epochs.{same_version};
 ghost use Rattle.phase_rows.specs.Orders.{is_same};
 ghost use Rattle.phase_rows.specs.declared.phase.Seen.TheVariants as seens;
-ghost use Rattle.leading.specs.Puts.{proposed, written_for, row_31, rewritten, row_32, write_settled, settled_for, acknowledged, put_stored, put_seen, put_for, row_35, acknowledged_by, row_35_reply};
+ghost use Rattle.leading.specs.Puts.{proposed, written_for, row_31, rewritten, row_32, settled_for, acknowledged, put_stored, put_seen, put_for, row_35, acknowledged_by, row_35_reply};
 
 use crate::leader::{Leader, is_last, settled_known};
 use crate::pending::Pending;

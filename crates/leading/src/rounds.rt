@@ -5,17 +5,16 @@ ghost use Rattle.call_table.specs.declared.row.Stage.TheVariants.{Reading};
 ghost use Rattle.quorum_round.specs.Rounds.{begun};
 ghost use Rattle.leading.specs.Leaders.{stands};
 ghost use Rattle.phase_rows.specs.declared.phase.Seen.TheVariants as seens;
-ghost use Rattle.phase_rows.specs.Orders.{is_same};
 ghost use Rattle.leader_words.specs.KeyCommands.{verdict_of};
 ghost use Rattle.register_model.specs.Registers.{outcome};
-ghost use Rattle.leading.specs.Rounds.{counts, asked, asked_for, row_29, heard, row_29_reply, without_object, on_found, on_greatest, on_best, by_state, gathered, gathered_for, row_30, begins_check, check_now, checked_for, row_33, goes_on_checking, stood, stood_at, row_33_reply, register_at, applied_for, row_34};
+ghost use Rattle.leading.specs.Rounds.{counts, asked, row_29, heard, row_29_reply, on_found, on_greatest, on_best, by_state, gathered, row_30, begins_check, check_now, checked_for, row_33, goes_on_checking, stood, stood_at, row_33_reply, register_at, applied_for, row_34};
 
 use crate::leader::{Leader, is_last, settled_known};
 use crate::pending::Pending;
 use call_table::{Found, Known, Stage, Waiting, better};
 use ens_base::{Command, Entry, Epoch, Key, PeerId, Reply, copy_entry};
-use leader_words::{LeadError, LeadOut, Object, Own, Verdict, apply, copy_object, on_any};
-use phase_rows::{Change, Fact, KeyRule, Message, Seen, Then};
+use leader_words::{LeadError, LeadOut, Object, Own, Verdict, apply, on_any};
+use phase_rows::{BoxedObject, Change, Fact, KeyRule, Message, Seen, Then};
 use quorum_round::{Round, RoundState};
 use std::alloc::Global;
 
@@ -30,6 +29,16 @@ fn verdict_at(
     match current {
         None => Ok(apply(alloc, command, None)?),
         Some(object) => Ok(apply(alloc, command, Some(object))?),
+    }
+}
+
+/// A copy of the object, off the heap.
+fn unboxed(alloc: Global, object: &Option<BoxedObject>) -> Result<Option<Object>, LeadError>
+    ensures { IfOk result (λ o. o ≡ object.now) }
+{
+    match object {
+        None => Ok(None),
+        Some(object) => Ok(Some(object.get().copy(alloc)?)),
     }
 }
 
@@ -57,13 +66,13 @@ impl Leader {
         &mut self,
         alloc: Global,
         entry: &Option<Entry>,
-        object: &Option<Object>,
+        object: &Option<BoxedObject>,
         key: &Key,
     ) -> Result<(), LeadError>
         ensures { OnOk result (self.new ≡ stands key.now (Reading self.old.round (begun self.old.fact.views self.old.me) (greatest_of None entry.now object.now)) self.old) }
     {
         let entry = copy_entry(alloc, entry)?;
-        let object = copy_object(alloc, object)?;
+        let object = unboxed(alloc, object)?;
         let stage = Stage::Reading {
             round: self.round,
             heard: Round::start(self.fact.views, self.me),
@@ -76,7 +85,7 @@ impl Leader {
         &mut self,
         alloc: Global,
         entry: &Option<Entry>,
-        object: &Option<Object>,
+        object: &Option<BoxedObject>,
         key: &Key,
     ) -> Result<LeadOut, LeadError>
         ensures { IfOk result (λ o. (self.new, o) ≡ asked (seens.Held entry.now object.now) key.now self.old) }

@@ -1,6 +1,5 @@
 ghost use Rattle.std.specs.Prelude.{◌≡◌, IfOk, Some, option_map};
 ghost use Rattle.kept_objects.specs.Kept.{matching};
-ghost use Rattle.leading.specs.Leaders.{joined};
 ghost use Rattle.leading.specs.Starts.{row_27, on_object, by_value, by_stamp, on_present, by_known, started, row_28, row_36};
 
 use crate::leader::Leader;

@@ -11,7 +11,7 @@ ghost use Rattle.peer_state.specs.Rows.{changes};
 
 use crate::machine::Machine;
 use ens_base::{Entry, Epoch, Key, PeerId, Reply, Version, copy_entry};
-use ens_object::Object;
+use ens_object::{BoxedObject, Object};
 use leader_words::{LeadError, LeadOut, Own};
 use peer_fact::{Change, Fact};
 use peer_plan::own_key;
@@ -175,7 +175,7 @@ impl<S> Machine<S> {
         round: u64,
         key: &Key,
         entry: &Option<Entry>,
-        object: &Option<Object>,
+        object: &Option<BoxedObject>,
     ) -> Result<Tasks, PeerError>
     where
         S: Store<H>,

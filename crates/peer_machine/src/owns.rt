@@ -8,7 +8,7 @@ ghost use Rattle.peer_plan.specs.Owns.{digested, read, kept, fetched, held, look
 
 use crate::machine::Machine;
 use ens_base::{Bytes, Digest, Entry, Key};
-use ens_object::Object;
+use ens_object::{BoxedObject, Object, box_object};
 use kept_objects::{entry_of, matching};
 use peer_plan::{bytes_of, object_of, seen_at};
 use phase_rows::Seen;
@@ -194,7 +194,7 @@ impl<S> Machine<S> {
             }),
             Some(entry) => {
                 let kept = self.kept(hasher, alloc, out, key)?;
-                let object = matching(&entry, kept);
+                let object = box_object(alloc, matching(&entry, kept))?;
                 Ok(Seen::Held {
                     entry: Some(entry),
                     object,
@@ -426,7 +426,7 @@ impl<S> Machine<S> {
         alloc: Global,
         out: &Outbox,
         entry: &Option<Entry>,
-        object: &Option<Object>,
+        object: &Option<BoxedObject>,
     ) -> Result<Option<Object>, PeerError>
     where
         S: Store<H>,
@@ -436,7 +436,7 @@ impl<S> Machine<S> {
             None => Ok(None),
             Some(entry) => match object {
                 None => Ok(None),
-                Some(object) => self.confirm(hasher, alloc, out, entry, object),
+                Some(object) => self.confirm(hasher, alloc, out, entry, object.get()),
             },
         }
     }

@@ -1,8 +1,8 @@
 -- Sets that a loop over the peers fills.
-use Rattle.std.specs.Prelude.{slice_set, ◌||◌}
+use Rattle.std.specs.Prelude.{◌||◌}
 use Rattle.std.proofs.Common.{◌≡◌, ℕ, zero, suc, ◌+◌, ◌<◌, Bool, true, false, ◌&&◌, ◌==◌, nat_lt, List, length, arith, refl, sym, ◌∙◌}
 use Rattle.std.proofs.lemmas.Bool.Decides.{nat_tests}
-use Rattle.std.proofs.lemmas.List.{length-set, get_or-replicate, ext_get_or}
+use Rattle.std.proofs.lemmas.List.{get_or-replicate, ext_get_or}
 use Rattle.std.proofs.lemmas.List.FromFn.{get_or-map-range_with_len}
 use Rattle.wire_frames.specs.EnsBase.{holds}
 use Rattle.phase_rows.specs.Peers.{those, nobody}
@@ -23,12 +23,6 @@ more_at here old new i p low before test now = grind (arith, nat_tests)
 
 same_at : (here old : Bool) (i p : ℕ) → old ≡ (nat_lt 0 p && nat_lt p i && here) → (p ≡ i → here ≡ false) → old ≡ (nat_lt 0 p && nat_lt p (i + 1) && here)
 same_at here old i p before test = grind (arith, nat_tests)
-
-pub filled_more : (test : ℕ → Bool) (i : ℕ) (set now : List Bool) → 0 < i → IsFilled test i set → test i ≡ true → now ≡ slice_set set i true → ((p : ℕ) → holds now p ≡ (p == i || holds set p)) → IsFilled test (i + 1) now
-filled_more test i set now low f t e members = record {
-  size = rw e (length-set set i true ∙ f.size);
-  at = λ p h. more_at (test p) (holds set p) (holds now p) i p low (f.at p h) (λ q. rw q t) (members p);
-}
 
 pub filled_same : (test : ℕ → Bool) (i : ℕ) (set : List Bool) → IsFilled test i set → test i ≡ false → IsFilled test (i + 1) set
 filled_same test i set f t = record { size = f.size; at = λ p h. same_at (test p) (holds set p) i p (f.at p h) (λ q. rw q t) }

@@ -26,5 +26,6 @@ pub use peers::{alone, are_quorum, joined, others_of, others_outside, with_membe
 pub use phase::{PhaseOut, Seen, Then};
 pub use rules::{KeyRule, PhaseRule};
 pub use wire_frames::{
-    Change, Fact, FactError, Message, NackCause, Position, SavedFact, Scan, TreeVersion,
+    BoxedObject, Change, Fact, FactError, Message, NackCause, Position, SavedFact, Scan,
+    TreeVersion,
 };

@@ -1,5 +1,5 @@
 use crate::rules::{KeyRule, PhaseRule};
-use wire_frames::{Digest, Entry, Fact, Message, Object, PeerSet, Position};
+use wire_frames::{BoxedObject, Digest, Entry, Fact, Message, Object, PeerSet, Position};
 
 /// What a peer does after a rule has run.
 #[derive(Clone, Copy, Debug, PartialEq, Eq)]
@@ -45,7 +45,7 @@ pub enum Seen {
     /// The tree's entry of the key, and the backend's object where it matches the entry.
     Held {
         entry: Option<Entry>,
-        object: Option<Object>,
+        object: Option<BoxedObject>,
     },
     /// The backend's object and the MD5 of its bytes, where they are an object.
     Kept(Option<(Object, Digest)>),

@@ -38,10 +38,6 @@ module _ {S : Type 0} (may : S → (call : BackendCall) → BackendAnswer call �
   fetch_memory [] s = (refl, refl)
   fetch_memory (e ∷ es) s = inl (refl, refl)
 
-  put_memory : (os : List Object) (s : S) → PutStops may loses os s Memory s
-  put_memory [] s = (refl, refl)
-  put_memory (o ∷ os) s = inl (refl, refl)
-
   -- one get
   pub fetch_one : (key : List ℕ) (s t : S) (bytes : Option (List ℕ)) (r : Result (Option Object) StoreError) → may s (Get key) bytes t → IfOk r (λ o. o ≡ decoded bytes) → IfErr r (λ e. e ≡ Memory) → DidFetchOne may loses key s r t
   fetch_one key s t bytes (Ok o) did ok err = (bytes, did, ok)
@@ -56,9 +52,6 @@ module _ {S : Type 0} (may : S → (call : BackendCall) → BackendAnswer call �
   pub record FetchesOn (all rest : List Entry) (items : List Item) (s u : S) : Type 0 where
     pub ends : (others : List Item) (t : S) → Fetches may rest u others t → Fetches may all s (items ++ others) t
     pub stops : (e : StoreError) (t : S) → FetchStops may loses rest u e t → FetchStops may loses all s e t
-
-  pub fetch_start : (all : List Entry) (s : S) → FetchesOn all all [] s s
-  fetch_start all s = record { ends = λ others t h. h; stops = λ e t h. h }
 
   -- one more was fetched
   fetch_step : (all rest : List Entry) (items : List Item) (x : Entry) (s u v : S) (object : Option Object) → FetchesOn all (x ∷ rest) items s u → DidFetchOne may loses x.key u (Ok object) v → FetchesOn all rest (items ++ item_with x object ∷ []) s v
@@ -104,9 +97,6 @@ module _ {S : Type 0} (may : S → (call : BackendCall) → BackendAnswer call �
   pub record PutsOn (all rest : List Object) (s u : S) : Type 0 where
     pub ends : (t : S) → Puts may rest u t → Puts may all s t
     pub stops : (e : StoreError) (t : S) → PutStops may loses rest u e t → PutStops may loses all s e t
-
-  pub put_start : (all : List Object) (s : S) → PutsOn all all s s
-  put_start all s = record { ends = λ t h. h; stops = λ e t h. h }
 
   pub put_next : (all : List Object) (i : ℕ) (x : Object) (s u v : S) → i < length all → x ≡ get_or all i x → PutsOn all (drop i all) s u → DidPutOne may loses x u (Ok tt) v → PutsOn all (drop (i + 1) all) s v
   put_next all i x s u v lt is on did =

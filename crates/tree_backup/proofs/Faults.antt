@@ -4,8 +4,6 @@ use Rattle.ens_base.specs.Causes.{Rose}
 use Rattle.ens_base.specs.declared.entry.Entry.{Entry}
 use Rattle.ens_base.proofs.Causes.{rose_later}
 use Rattle.ens_hashing.specs.Hashing.{Book}
-use Rattle.ens_hashing.specs.declared.error.HashError.{HashError}
-use Rattle.ens_hashing.specs.declared.error.HashError.TheVariants as hashes
 use Rattle.ens_outside.specs.Stores.{NodeCall, NodeAnswer}
 use Rattle.ens_outside.specs.declared.errors.StoreError.{StoreError}
 use Rattle.ens_outside.specs.declared.errors.StoreError.TheVariants as stores
@@ -28,7 +26,7 @@ use Rattle.tree_verify.proofs.Walking.{scan_gives}
 use Rattle.tree_verify.proofs.Unbroken.{IsUnbroken, then_unbroken, ends_well, scan_unbroken}
 use Rattle.tree_backup.specs.Order.{Rises}
 use Rattle.tree_backup.proofs.Ascending.{rises_sorted}
-use Rattle.tree_backup.specs.Causes.{of_tree, of_store, of_hash, IsFromOutside}
+use Rattle.tree_backup.specs.Causes.{of_tree, of_store, IsFromOutside}
 use Rattle.tree_backup.specs.declared.error.BackupError.{BackupError}
 use Rattle.tree_backup.specs.declared.error.BackupError.TheVariants.{Failed}
 
@@ -40,19 +38,9 @@ pub store_outside : (e : StoreError) → IsFromOutside (of_store e)
 store_outside stores.Failed = tt
 store_outside stores.Memory = tt
 
-pub hash_outside : (e : HashError) → IsFromOutside (of_hash e)
-hash_outside (hashes.Clash first second) = tt
-hash_outside (hashes.BookFull n) = tt
-hash_outside hashes.Memory = tt
-
 pub store_failed : (e : StoreError) → of_store e ≡ Failed → e ≡ stores.Failed
 store_failed stores.Failed h = refl
 store_failed stores.Memory h = absurd cc
-
-pub hash_not_failed : (e : HashError) → of_hash e ≡ Failed → ⊥
-hash_not_failed (hashes.Clash first second) h = cc
-hash_not_failed (hashes.BookFull n) h = cc
-hash_not_failed hashes.Memory h = cc
 
 hash_unbroken : (xs : List (List ℕ)) → IsUnbroken (hash_all xs)
 hash_unbroken [] = tt

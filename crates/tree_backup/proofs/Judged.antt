@@ -42,9 +42,6 @@ passes_hash (hashes.Clash first second) checked = tt
 passes_hash (hashes.BookFull n) checked = tt
 passes_hash hashes.Memory checked = tt
 
-pub passes_memory : (checked : Result Content BackupError) → Passes (Err Memory) checked
-passes_memory checked = tt
-
 -- bytes that do not read have the fault of the reading
 pub unread : (e : BackupError) (read : Result Backup BackupError) → Fails e read → Refuses e (read >>= judged)
 unread (Clash first second) read h = tt

@@ -1,5 +1,5 @@
 -- Objects that match their entries.
-use Rattle.std.proofs.Common.{◌≡◌, ℕ, zero, suc, ◌+◌, ◌<◌, ◌≤◌, Bool, true, false, cond, List, [], ◌∷◌, ◌++◌, length, get_or, take, drop, map, Option, None, Some, refl, ap, sym, ◌∙◌, arith}
+use Rattle.std.proofs.Common.{◌≡◌, ℕ, zero, suc, ◌+◌, ◌<◌, Bool, true, false, cond, List, [], ◌∷◌, ◌++◌, length, get_or, take, drop, map, Option, None, Some, refl, ap, sym, ◌∙◌, arith}
 use Rattle.std.specs.List.{AllByRecursion}
 use Rattle.ens_base.proofs.Lists.{bytes_same}
 use Rattle.ens_base.specs.Lists.{same_bytes}
@@ -8,7 +8,7 @@ use Rattle.ens_object.specs.Objects.{object_spelling}
 use Rattle.ens_object.specs.declared.object.Object.{Object}
 use Rattle.kept_objects.specs.Kept.{is_named}
 use Rattle.md5.specs.Md5.{md5}
-use Rattle.tree_maps.proofs.Slices.{drop_at, drop_all}
+use Rattle.tree_maps.proofs.Slices.{drop_at}
 use Rattle.tree_repair.proofs.Lists.{get_map_or, map_map}
 use Rattle.tree_verify.specs.Hashers.{digest_if}
 use Rattle.tree_backup.specs.declared.item.Item.{Item}
@@ -68,14 +68,6 @@ pub mismatch_next : (xs : List Item) (i : ℕ) (x : Item) → i < length xs → 
 mismatch_next xs i x lt is agrees so_far =
     let here : mismatch (drop i xs) ≡ mismatch (drop (i + 1) xs) = ap mismatch (drop_at xs i x x lt is) ∙ ap (λ b. cond b (mismatch (drop (i + 1) xs)) (Some x.entry.key)) agrees in
     sym here ∙ so_far
-
-pub mismatch_here : (xs : List Item) (i : ℕ) (x : Item) (key : List ℕ) → i < length xs → x ≡ get_or xs i x → matches x ≡ false → mismatch (drop i xs) ≡ mismatch xs → key ≡ x.entry.key → Some key ≡ mismatch xs
-mismatch_here xs i x key lt is differs so_far same =
-    let here : mismatch (drop i xs) ≡ Some x.entry.key = ap mismatch (drop_at xs i x x lt is) ∙ ap (λ b. cond b (mismatch (drop (i + 1) xs)) (Some x.entry.key)) differs in
-    ap (λ (k : List ℕ). Some k) same ∙ sym here ∙ so_far
-
-pub mismatch_end : (xs : List Item) (i : ℕ) → length xs ≤ i → mismatch (drop i xs) ≡ mismatch xs → None ≡ mismatch xs
-mismatch_end xs i le so_far = ap mismatch (sym (drop_all xs i le)) ∙ so_far
 
 -- an item that the loop has not come to is as it was
 pub unchanged_at : {A : Type 0} (f : A → A) (xs zs : List A) (i : ℕ) (x : A) → i < length xs → zs ≡ map f (take i xs) ++ drop i xs → x ≡ get_or zs i x → x ≡ get_or xs i x

@@ -1,24 +1,19 @@
 -- A backup and a restore, from what their steps did.
-use Rattle.std.proofs.Common.{◌≡◌, ◌<◌, ℕ, length, get_or, arith, List, [], ◌∷◌, Option, Result, Ok, Err, refl, ap, sym, subst, inl, inr}
+use Rattle.std.proofs.Common.{◌≡◌, ◌<◌, ℕ, length, get_or, arith, List, [], ◌∷◌, Option, Result, Ok, Err, refl, ap, sym, subst, inl}
 use Rattle.std.specs.Prelude.{Vec}
 use Rattle.std.specs.declared.alloc.Global.{Global}
 use Rattle.ens_base.specs.declared.entry.Entry.{Entry}
 use Rattle.ens_hashing.specs.Hashing.{Book}
-use Rattle.ens_hashing.specs.declared.error.HashError.{HashError}
-use Rattle.ens_object.specs.declared.object.Object.{Object}
 use Rattle.ens_outside.specs.Stores.{BackendCall, BackendAnswer}
 use Rattle.ens_outside.specs.declared.errors.StoreError.{StoreError}
-use Rattle.synctree.specs.declared.error.TreeError.{TreeError}
 use Rattle.tree_node.specs.declared.body.Scan.{Scan}
 use Rattle.tree_node.specs.declared.position.Position.{Position}
-use Rattle.tree_repair.specs.Admitting.{Rejected}
-use Rattle.tree_backup.specs.Causes.{of_tree, of_store, of_hash, IsFromOutside}
-use Rattle.tree_backup.specs.Runs.{backup_strings, IsWhole, BehindWhole, Behind, Sound, Restores}
-use Rattle.tree_backup.specs.Stores.{Fetches, FetchStops, PutStops}
+use Rattle.tree_backup.specs.Causes.{of_store}
+use Rattle.tree_backup.specs.Runs.{IsWhole, BehindWhole, Behind, Sound}
+use Rattle.tree_backup.specs.Stores.{FetchStops}
 use Rattle.tree_backup.specs.declared.error.BackupError.{BackupError}
 use Rattle.tree_backup.specs.declared.error.BackupError.TheVariants.{Order, Damaged}
-use Rattle.tree_backup.specs.declared.item.Item.{Item}
-use Rattle.tree_backup.proofs.Faults.{store_outside, hash_outside}
+use Rattle.tree_backup.proofs.Faults.{store_outside}
 
 pub split_first : (ps qs : List Position) (d : Position) → qs ≡ ps → 0 < length qs → (others : List Position) × (ps ≡ get_or qs 0 d ∷ others)
 split_first [] qs d same some = absurd (omega (arith, some, ap length same))
@@ -41,13 +36,3 @@ module _ {B H : Type 0} (gets : B → (call : BackendCall) → BackendAnswer cal
 
   pub not_fetched : (es : List Entry) (b c : B) (h : H) (e : StoreError) → FetchStops gets loses es b e c → BehindWhole gets loses kept clashes fulls es b h (Err (of_store e)) c h
   not_fetched es b c h e stops = (store_outside e, inl (e, refl, stops, refl))
-
-  pub not_hashed : (es : List Entry) (items : List Item) (b c : B) (h k : H) (e : HashError) → Fetches gets es b items c → Rejected kept clashes fulls (backup_strings es items) h e k → BehindWhole gets loses kept clashes fulls es b h (Err (of_hash e)) c k
-  not_hashed es items b c h k e fetches off = (hash_outside e, inr (items, e, refl, fetches, off))
-
-module _ {B : Type 0} (Rebuilt : Result (Unit {0}) TreeError → Type 0) (puts : B → (call : BackendCall) → BackendAnswer call → B → Type 0) (loses : B → BackendCall → StoreError → B → Type 0) where
-  pub not_rebuilt : (os : List Object) (b : B) (e : TreeError) → IsFromOutside (of_tree e) → Rebuilt (Err e) → Restores Rebuilt puts loses os b (Err (of_tree e)) b
-  not_rebuilt os b e out did = (out, inl (e, refl, did, refl))
-
-  pub not_put : (os : List Object) (b c : B) (e : StoreError) → Rebuilt (Ok tt) → PutStops puts loses os b e c → Restores Rebuilt puts loses os b (Err (of_store e)) c
-  not_put os b c e did stops = (store_outside e, inr (e, refl, did, stops))

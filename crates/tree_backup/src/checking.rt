@@ -14,13 +14,12 @@ ghost use Rattle.tree_backup.specs.declared.item.Item.{Item};
 
 use crate::error::{BackupError, hash_error};
 use crate::hashing::hash_objects;
-use crate::held::Held;
 use crate::item::{Backup, Content, Item};
 use crate::matching::mismatch;
 use crate::reading::decode;
 use ens_base::{Digest, Key, Seq};
 use ens_hashing::{HashError, Hasher16};
-use ens_object::Object;
+use ens_object::{BoxedObject, Object};
 use std::alloc::{AllocError, Global};
 use std::thread::Threads;
 use tree_node::TreeVersion;
@@ -28,7 +27,7 @@ use tree_repair::build;
 use tree_verify::Gate;
 
 /// Appends an object, if there is one.
-fn push_object(objects: &mut Vec<Object>, object: Option<Held>) -> Result<(), AllocError>
+fn push_object(objects: &mut Vec<Object>, object: Option<BoxedObject>) -> Result<(), AllocError>
     ensures { OnOk result (objects.new.items ≡ objects.old.items ++ cons_option object []) }
 {
     match object {

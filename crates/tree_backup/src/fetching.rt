@@ -3,41 +3,33 @@ ghost use Rattle.ens_base.specs.Causes.{Rose};
 ghost use Rattle.ens_outside.specs.Told.{bytes_of};
 ghost use Rattle.tree_backup.specs.Stores.{decoded, DidFetch, DidFetchOne};
 
-use crate::held::Held;
 use crate::item::Item;
 use ens_base::{Entry, Key};
-use ens_object::Object;
+use ens_object::{BoxedObject, box_object};
 use ens_outside::{Backend, StoreError};
 use kept_objects::object_in;
 use std::alloc::Global;
 
-/// Puts an object on the heap, if there is one. Fails only when out of memory.
-fn held(alloc: Global, object: Option<Object>) -> Result<Option<Held>, StoreError>
-    ensures ok { IfOk result (λ o. o ≡ object) }
-    ensures memory { IfErr result (λ e. e ≡ StoreError.Memory) }
-{
-    match object {
-        None => Ok(None),
-        Some(object) => Ok(Some(Held::new(alloc, object)?)),
-    }
-}
-
 /// Returns the object in what a backend returned, if it is one. Fails only when out of memory.
-fn decode(alloc: Global, bytes: &Option<Vec<u8>>) -> Result<Option<Held>, StoreError>
+fn decode(alloc: Global, bytes: &Option<Vec<u8>>) -> Result<Option<BoxedObject>, StoreError>
     ensures ok { IfOk result (λ o. o ≡ decoded (bytes_of bytes.now)) }
     ensures memory { IfErr result (λ e. e ≡ StoreError.Memory) }
 {
     match bytes {
         None => Ok(None),
         Some(bytes) => match object_in(alloc, bytes.as_slice()) {
-            Ok(object) => held(alloc, object),
+            Ok(object) => Ok(box_object(alloc, object)?),
             Err(_) => Err(StoreError::Memory),
         },
     }
 }
 
 /// Returns the object that the backend has under a key, if it is one.
-fn fetch<B: Backend>(alloc: Global, backend: &mut B, key: &Key) -> Result<Option<Held>, StoreError>
+fn fetch<B: Backend>(
+    alloc: Global,
+    backend: &mut B,
+    key: &Key,
+) -> Result<Option<BoxedObject>, StoreError>
     ensures did { DidFetchOne B.may_answer B.may_refuse key.now backend.old result backend.new }
     ensures later { B.fault_count backend.old ≤ B.fault_count backend.new }
     ensures failed { IsErrOf result StoreError.Failed → Rose (B.fault_count backend.old) (B.fault_count backend.new) }

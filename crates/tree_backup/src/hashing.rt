@@ -5,16 +5,16 @@ ghost use Rattle.tree_repair.specs.Builds.{somes};
 ghost use Rattle.tree_verify.specs.Hashers.{digest_if};
 ghost use Rattle.tree_backup.specs.Checks.{text_of as text_of_object, texts_of as texts_of_items, text_at};
 
-use crate::held::Held;
 use crate::item::Item;
 use ens_base::{Bytes, Digest};
 use ens_hashing::{HashError, Hasher16};
+use ens_object::BoxedObject;
 use std::alloc::Global;
 use std::thread::Threads;
 use tree_verify::{Gate, digests};
 
 /// Returns the spelling of an object, if there is one. Fails only when out of memory.
-fn text_of(alloc: Global, object: &Option<Held>) -> Result<Option<Bytes>, HashError>
+fn text_of(alloc: Global, object: &Option<BoxedObject>) -> Result<Option<Bytes>, HashError>
     ensures ok { IfOk result (λ t. t ≡ text_of_object object.now) }
     ensures memory { IfErr result (λ e. e ≡ Memory) }
 {

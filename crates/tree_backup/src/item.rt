@@ -1,12 +1,11 @@
-use crate::held::Held;
 use ens_base::{Digest, Entry, Seq};
-use ens_object::Object;
+use ens_object::{BoxedObject, Object};
 
 /// An entry of a tree, and the object that the entry names, if the backup has it.
 #[derive(Debug, Drop)]
 pub struct Item {
     pub entry: Entry,
-    pub object: Option<Held>,
+    pub object: Option<BoxedObject>,
 }
 
 /// What the bytes of a backup say.

@@ -1,4 +1,4 @@
-ghost use Rattle.std.specs.Prelude.{◌≡◌, ◌≤◌, ◌++◌, take, length, IfOk, IfErr, OnOk};
+ghost use Rattle.std.specs.Prelude.{◌≡◌, ◌≤◌, length, IfOk};
 ghost use Rattle.ens_fields.specs.Faults.{with_rule as named, Finds};
 ghost use Rattle.ens_fields.specs.Strings.{key_at, value_at};
 ghost use Rattle.ens_object.specs.Objects.{held_at as value_behind, content_at, object_at};

@@ -1,4 +1,4 @@
-ghost use Rattle.std.specs.Prelude.{◌≡◌, ◌≤◌, IsErrOf};
+ghost use Rattle.std.specs.Prelude.{◌≤◌, IsErrOf};
 ghost use Rattle.ens_base.specs.Causes.{Rose};
 ghost use Rattle.tree_backup.specs.Stores.{DidPut, DidPutOne};
 

@@ -6,11 +6,11 @@ ghost use Rattle.tree_backup.specs.Items.{IsBackup, backup_spelling};
 ghost use Rattle.tree_backup.specs.Readings.{ended as unruled, keyed as key_ruled, magic_at, tag_at, tags_at, entry_at, object_behind, held_at, item_at, items_at, backup_at, all_of, backup_of, last_key, Answers};
 
 use crate::error::BackupError;
-use crate::held::Held;
 use crate::item::{Backup, Item};
 use crate::objects::read_object;
 use ens_base::{Entry, Key, Seq};
 use ens_fields::{FieldError, take_digest, take_key, take_u8, take_u16, take_u32, take_version};
+use ens_object::BoxedObject;
 use std::alloc::Global;
 use std::cmp::Ordering;
 
@@ -139,17 +139,25 @@ fn read_entry(
 }
 
 #[tactic(auto, unfolding(crate::specs::Readings::object_behind))]
-fn read_behind(alloc: Global, bytes: &[u8], at: usize) -> Result<(Option<Held>, usize), BackupError>
+fn read_behind(
+    alloc: Global,
+    bytes: &[u8],
+    at: usize,
+) -> Result<(Option<BoxedObject>, usize), BackupError>
     requires { at ≤ length bytes.now }
     ensures exact { Answers result (object_behind bytes.now at) }
     ensures within { IfOk result (λ x. x.1 ≤ length bytes.now) }
 {
     let (object, at) = read_object(alloc, bytes, at)?;
-    Ok((Some(Held::new(alloc, object)?), at))
+    Ok((Some(BoxedObject::new(alloc, object)?), at))
 }
 
 #[tactic(auto, unfolding(crate::specs::Readings::held_at))]
-fn read_held(alloc: Global, bytes: &[u8], at: usize) -> Result<(Option<Held>, usize), BackupError>
+fn read_held(
+    alloc: Global,
+    bytes: &[u8],
+    at: usize,
+) -> Result<(Option<BoxedObject>, usize), BackupError>
     requires { at ≤ length bytes.now }
     ensures exact { Answers result (held_at bytes.now at) }
     ensures within { IfOk result (λ x. x.1 ≤ length bytes.now) }

@@ -6,16 +6,15 @@ ghost use Rattle.tree_backup.specs.Items.{IsHeld, held_spelling, IsItem, item_sp
 ghost use Rattle.tree_backup.specs.declared.error.BackupError.TheVariants.{Memory};
 
 use crate::error::BackupError;
-use crate::held::Held;
 use crate::item::Item;
 use crate::reading::{FORMAT, MAGIC, TREE};
 use ens_base::Digest;
 use ens_fields::{FieldError, put_digest, put_entry, put_u8, put_u16, put_u32};
-use ens_object::put_object;
+use ens_object::{BoxedObject, put_object};
 use std::alloc::Global;
 
 /// Appends the flag, and the object behind it.
-fn put_held(object: &Option<Held>, out: &mut Vec<u8>) -> Result<(), FieldError>
+fn put_held(object: &Option<BoxedObject>, out: &mut Vec<u8>) -> Result<(), FieldError>
     ensures ok { OnOk result (out.new.items ≡ out.old.items ++ held_spelling object.now) }
     ensures valid { OnOk result (IsHeld object.now) }
     ensures memory { IfErr result (λ e. e ≡ FieldError.Memory) }

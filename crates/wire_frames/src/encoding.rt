@@ -1,7 +1,7 @@
 ghost use Rattle.std.specs.Prelude.{◌≡◌, ◌≤◌, ◌++◌, ◌∷◌, [], length, Ok, IfOk, IfErr, OnOk};
 ghost use Rattle.byteorder.specs.Endian.{big_bytes};
-ghost use Rattle.wire_frames.specs.Messages.{kind_of as kind, message_spelling, Obeys};
-ghost use Rattle.wire_frames.specs.Frames.{IsEnd, IsFrame, frame_spelling, frame_of};
+ghost use Rattle.wire_frames.specs.Messages.{kind_of as kind, Obeys};
+ghost use Rattle.wire_frames.specs.Frames.{IsEnd, frame_spelling, frame_of};
 
 use crate::error::FrameError;
 use crate::frame::Frame;

@@ -23,7 +23,7 @@ mod take_parts;
 pub use decoding::decode_frame;
 pub use encoding::encode_frame;
 pub use ens_base::{Digest, Entry, Epoch, PeerId, PeerSet, Views};
-pub use ens_object::Object;
+pub use ens_object::{BoxedObject, Object};
 pub use error::FrameError;
 pub use faults::frames_fault_first;
 pub use frame::Frame;

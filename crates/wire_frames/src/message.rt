@@ -1,7 +1,7 @@
 ghost use Rattle.std.specs.Prelude.{◌≡◌, IfOk};
 
 use ens_base::{Command, CopyError, Entry, Epoch, Key, Reply, Version, copy_entry, copy_key};
-use ens_object::{Object, copy_object};
+use ens_object::{BoxedObject, Object, copy_boxed};
 use peer_fact::Fact;
 use std::alloc::Global;
 use tree_node::{Position, TreeBody};
@@ -36,8 +36,9 @@ pub enum Message {
     Accepted(Epoch, u64),
     /// Asks for the entry and the object of the key, in this round of the epoch.
     Get(Epoch, u64, Key),
-    /// The entry of the key in the tree of the peer, and the object that matches it.
-    GetReply(Epoch, u64, Key, Option<Entry>, Option<Object>),
+    /// The entry of the key in the tree of the peer, and the object that matches it. The object is on the
+    /// heap, since it alone would make each message twice as large.
+    GetReply(Epoch, u64, Key, Option<Entry>, Option<BoxedObject>),
     /// Asks to write the object.
     Put(Epoch, Object),
     /// The object of this key was written under this version.
@@ -60,6 +61,37 @@ pub enum Message {
     AnswerFrame(u64, Reply),
 }
 
+fn copy_get_reply(
+    alloc: Global,
+    epoch: Epoch,
+    round: u64,
+    key: &Key,
+    entry: &Option<Entry>,
+    object: &Option<BoxedObject>,
+) -> Result<Message, CopyError>
+    ensures { IfOk result (λ m. m ≡ Message.GetReply epoch round key.now entry.now object.now) }
+{
+    let key = key.copy(alloc)?;
+    let entry = copy_entry(alloc, entry)?;
+    let object = copy_boxed(alloc, object)?;
+    Ok(Message::GetReply(epoch, round, key, entry, object))
+}
+
+fn copy_tree_give(
+    alloc: Global,
+    epoch: Epoch,
+    position: Position,
+    after: &Option<Key>,
+    trusted: bool,
+    body: &TreeBody,
+) -> Result<Message, CopyError>
+    ensures { IfOk result (λ m. m ≡ Message.TreeGive epoch position after.now trusted body.now) }
+{
+    let after = copy_key(alloc, after)?;
+    let body = body.copy(alloc)?;
+    Ok(Message::TreeGive(epoch, position, after, trusted, body))
+}
+
 impl Message {
     /// An equal message.
     pub fn copy(&self, alloc: Global) -> Result<Message, CopyError>
@@ -74,13 +106,9 @@ impl Message {
             Message::NewEpoch(fact) => Ok(Message::NewEpoch(*fact)),
             Message::Accepted(epoch, seq) => Ok(Message::Accepted(*epoch, *seq)),
             Message::Get(epoch, round, key) => Ok(Message::Get(*epoch, *round, key.copy(alloc)?)),
-            Message::GetReply(epoch, round, key, entry, object) => Ok(Message::GetReply(
-                *epoch,
-                *round,
-                key.copy(alloc)?,
-                copy_entry(alloc, entry)?,
-                copy_object(alloc, object)?,
-            )),
+            Message::GetReply(epoch, round, key, entry, object) => copy_get_reply(
+                alloc, *epoch, *round, key, entry, object,
+            ),
             Message::Put(epoch, object) => Ok(Message::Put(*epoch, object.copy(alloc)?)),
             Message::PutReply(epoch, key, version) => Ok(Message::PutReply(
                 *epoch,
@@ -94,13 +122,9 @@ impl Message {
                 *position,
                 copy_key(alloc, after)?,
             )),
-            Message::TreeGive(epoch, position, after, trusted, body) => Ok(Message::TreeGive(
-                *epoch,
-                *position,
-                copy_key(alloc, after)?,
-                *trusted,
-                body.copy(alloc)?,
-            )),
+            Message::TreeGive(epoch, position, after, trusted, body) => copy_tree_give(
+                alloc, *epoch, *position, after, *trusted, body,
+            ),
             Message::Commit(fact) => Ok(Message::Commit(*fact)),
             Message::Beat(epoch) => Ok(Message::Beat(*epoch)),
             Message::CallFrame(id, key, command) => Ok(Message::CallFrame(

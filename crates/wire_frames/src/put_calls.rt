@@ -1,4 +1,4 @@
-ghost use Rattle.std.specs.Prelude.{◌≡◌, ◌≤◌, ◌<◌, ◌^◌, ◌++◌, ◌∷◌, [], length, count_ones, IfErr, OnOk};
+ghost use Rattle.std.specs.Prelude.{◌≡◌, ◌<◌, ◌++◌, IfErr, OnOk};
 ghost use Rattle.ens_base.specs.Limits.{IsCommand};
 ghost use Rattle.wire_frames.specs.Calls.{arguments_spelling, command_tag as tag, IsCall, call_spelling, IsReply, reply_spelling};
 

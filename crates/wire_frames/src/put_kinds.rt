@@ -1,4 +1,4 @@
-ghost use Rattle.std.specs.Prelude.{◌≡◌, ◌≤◌, ◌<◌, ◌^◌, ◌++◌, ◌∷◌, [], length, count_ones, IfErr, OnOk};
+ghost use Rattle.std.specs.Prelude.{◌≡◌, ◌<◌, ◌++◌, IfErr, OnOk};
 ghost use Rattle.tree_node.specs.declared.version.TreeVersion.TheVariants.{Two};
 ghost use Rattle.tree_node.specs.Positions.{IsPosition};
 ghost use Rattle.wire_frames.specs.Messages.{IsMessage, message_spelling, Obeys, ObeysCause, ObeysBody};
@@ -11,7 +11,7 @@ use crate::put_parts::{
 };
 use ens_base::{Command, Entry, Epoch, Key, Reply, Version};
 use ens_fields::{FieldError, put_epoch, put_key, put_u64, put_version};
-use ens_object::{Object, put_object};
+use ens_object::{BoxedObject, Object, put_object};
 use peer_fact::{Fact, put_fact};
 use tree_node::{Position, TreeBody, put_position};
 
@@ -57,7 +57,7 @@ fn append_get_reply(
     round: u64,
     key: &Key,
     entry: &Option<Entry>,
-    object: &Option<Object>,
+    object: &Option<BoxedObject>,
     out: &mut Vec<u8>,
 ) -> Result<(), FieldError>
     ensures ok { OnOk result (out.new.items ≡ out.old.items ++ message_spelling (Message.GetReply epoch.now round key.now entry.now object.now)) }

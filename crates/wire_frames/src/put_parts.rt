@@ -1,15 +1,15 @@
-ghost use Rattle.std.specs.Prelude.{◌≡◌, ◌≤◌, ◌<◌, ◌^◌, ◌++◌, ◌∷◌, [], length, count_ones, IfErr, OnOk};
+ghost use Rattle.std.specs.Prelude.{◌≡◌, ◌≤◌, ◌<◌, ◌++◌, [], length, count_ones, IfErr, OnOk};
 ghost use Rattle.ens_base.specs.Limits.{IsKey};
 ghost use Rattle.ens_fields.specs.Entries.{IsEntry, entry_spelling};
 ghost use Rattle.ens_object.specs.Objects.{IsObject, object_spelling};
 ghost use Rattle.tree_node.specs.Entries.{AreAbove};
 ghost use Rattle.wire_frames.specs.Messages.{ObeysCause, ObeysBody};
-ghost use Rattle.wire_frames.specs.Parts.{flag_spelling, IsOptional, optional_spelling, option_key_spelling, AreChildren, IsPage, page_spelling, IsBody, body_spelling, IsCause, cause_spelling};
+ghost use Rattle.wire_frames.specs.Parts.{flag_spelling, IsOptional, optional_spelling, option_key_spelling, AreChildren, IsPage, IsBody, body_spelling, IsCause, cause_spelling};
 
 use crate::message::NackCause;
 use ens_base::{Digest, Entry, Key, Seq};
 use ens_fields::{FieldError, put_entry, put_epoch, put_key, put_u8, put_u16};
-use ens_object::{Object, put_object};
+use ens_object::{BoxedObject, put_object};
 use tree_node::{TreeBody, append_digests, append_entries, put_position};
 
 /// Appends the flag.
@@ -36,7 +36,7 @@ pub fn append_optional_entry(x: &Option<Entry>, out: &mut Vec<u8>) -> Result<(),
 }
 
 /// Appends a flag, and the object if there is one. Out of memory leaves a part of them.
-pub fn append_optional_object(x: &Option<Object>, out: &mut Vec<u8>) -> Result<(), FieldError>
+pub fn append_optional_object(x: &Option<BoxedObject>, out: &mut Vec<u8>) -> Result<(), FieldError>
     ensures ok { OnOk result (out.new.items ≡ out.old.items ++ optional_spelling object_spelling x.now) }
     ensures valid { OnOk result (IsOptional IsObject x.now) }
     ensures memory { IfErr result (λ e. e ≡ FieldError.Memory) }
@@ -45,7 +45,7 @@ pub fn append_optional_object(x: &Option<Object>, out: &mut Vec<u8>) -> Result<(
         None => put_u8(0, out),
         Some(object) => {
             put_u8(1, out)?;
-            put_object(object, out)
+            put_object(object.get(), out)
         }
     }
 }

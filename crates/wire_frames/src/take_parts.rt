@@ -1,8 +1,6 @@
 ghost use Rattle.std.specs.Prelude.{◌≡◌, ◌≤◌, length, Some, IfOk};
-ghost use Rattle.ens_fields.specs.Faults.{without_rule};
 ghost use Rattle.ens_fields.specs.Reading.{Gives};
 ghost use Rattle.ens_fields.specs.Entries.{entry_at};
-ghost use Rattle.ens_object.specs.Objects.{object_at};
 ghost use Rattle.wire_frames.specs.Readers.{made};
 ghost use Rattle.wire_frames.specs.Messages.{any_object_at};
 ghost use Rattle.wire_frames.specs.Parts.{flag_at, optional_at, option_key_at, children_at, page_at, inner_body_at, page_body_at, damaged_body_at, body_at, greater_at, damaged_at, cause_at};
@@ -10,7 +8,7 @@ ghost use Rattle.wire_frames.specs.Parts.{flag_at, optional_at, option_key_at, c
 use crate::message::NackCause;
 use ens_base::{Digest, Entry, Key, Seq};
 use ens_fields::{FieldError, take_entry, take_epoch, take_key, take_u8, take_u16};
-use ens_object::{Object, take_object};
+use ens_object::{BoxedObject, take_object};
 use std::alloc::Global;
 use tree_node::{TreeBody, TreeVersion, take_digests, take_entries, take_position};
 
@@ -65,13 +63,13 @@ fn take_some_object(
     alloc: Global,
     bytes: &[u8],
     at: usize,
-) -> Result<(Option<Object>, usize), FieldError>
+) -> Result<(Option<BoxedObject>, usize), FieldError>
     requires { at ≤ length bytes.now }
     ensures exact { Gives result (made Some any_object_at bytes.now at) }
     ensures within { IfOk result (λ x. x.1 ≤ length bytes.now) }
 {
     let (object, after) = take_object(alloc, bytes, at)?;
-    Ok((Some(object), after))
+    Ok((Some(BoxedObject::new(alloc, object)?), after))
 }
 
 /// Reads a flag at `at`, and an object if it is 1. Returns the object and the place after it.
@@ -80,7 +78,7 @@ pub fn take_optional_object(
     alloc: Global,
     bytes: &[u8],
     at: usize,
-) -> Result<(Option<Object>, usize), FieldError>
+) -> Result<(Option<BoxedObject>, usize), FieldError>
     requires { at ≤ length bytes.now }
     ensures exact { Gives result (optional_at any_object_at bytes.now at) }
     ensures within { IfOk result (λ x. x.1 ≤ length bytes.now) }
