@@ -1,14 +1,14 @@
 -- What a job on a backup read, and what it prints.
-use Rattle.std.proofs.Common.{◌≡◌, ℕ, List, Option, Result, Ok, Err, ◌≤◌, None, Some, length, refl, sym, subst, inl}
+use Rattle.std.proofs.Common.{◌≡◌, ℕ, List, Option, Result, Ok, Err, refl, subst, inl}
 use Rattle.std.specs.Prelude.{IfOk, string_bytes}
-use Rattle.std.specs.Io.KnownBytes.{IsAtEnd, Keeps, prepend_known}
+use Rattle.std.specs.Io.KnownBytes.{IsAtEnd}
 use Rattle.std.specs.declared.alloc.AllocError.{AllocError}
 use Rattle.ens_base.specs.Causes.{Rose}
 use Rattle.ens_base.specs.declared.status.Status.{Status}
-use Rattle.ens_base.proofs.Statuses.{memory_not_done, memory_no_fault}
+use Rattle.ens_base.proofs.Statuses.{memory_no_fault}
 use Rattle.tree_backup.specs.declared.error.BackupError.{BackupError}
 use Rattle.tree_backup.specs.declared.error.BackupError.TheVariants as errors
-use Rattle.backup_job.specs.Printed.{EndsAs, GaveAtMost, HasRead, PrintsCheck, Reads, Reports, Stops, Unread, WasReadWhole, memory_text}
+use Rattle.backup_job.specs.Printed.{EndsAs, GaveAtMost, HasRead, NeedsInput, PrintsCheck, Reads, Reports, Stops, Unread, WasReadWhole, memory_text}
 use Rattle.backup_job.specs.Restored.{Restored, RestoresTo}
 use Rattle.backup_job.specs.declared.checking.ReadError.{ReadError}
 use Rattle.backup_job.specs.declared.checking.ReadError.TheVariants as reads
@@ -41,22 +41,6 @@ pub ok_weaker : {A E : Type 0} (r : Result A E) (P Q : A → Type 0) → ((x : A
 ok_weaker (Ok x) P Q k h = k x h
 ok_weaker (Err e) P Q k h = tt
 
--- a source that gave these bytes, at most so many
-pub gave_most : (most : ℕ) (source left : Option (List ℕ)) (v : List ℕ) → Keeps source (prepend_known v left) → length v ≤ most → GaveAtMost most source left
-gave_most most None left v kept few = tt
-gave_most most (Some bytes) None v kept few = absurd kept
-gave_most most (Some bytes) (Some rest) v kept few = (v, sym kept, few)
-
--- a test ends with a cause only of bytes that were read whole
-pub stops_whole : (e : ReadError) (left : Option (List ℕ)) (status : Status) (text : List ℕ) → WasReadWhole left e → Stops e status text → status ≡ Status.Backup → IsAtEnd left
-stops_whole (reads.Backup e) left status text whole stops is = whole
-stops_whole (reads.Input e) left status text whole stops is = absurd (by e (subst (λ (s : Status). Unread e s text) is stops))
-  where
-    by : (e : InputError) → Unread e Status.Backup text → ⊥
-    by inputs.Failed h = h
-    by inputs.TooLong h = h
-    by inputs.Memory h = h
-
 -- what ended a test of a source that gave no content
 done_unread : (e : ReadError) (text : List ℕ) → Stops e Status.Done text → ⊥
 done_unread (reads.Input inputs.Failed) text h = h
@@ -74,6 +58,20 @@ done_unread (reads.Backup e) text h = by e h
 pub stops_done : (e : ReadError) (status : Status) (text : List ℕ) → Stops e status text → status ≡ Status.Done → ⊥
 stops_done e status text h is = done_unread e text (subst (λ (s : Status). Stops e s text) is h)
 
+-- an input that was not read to its end, and a status that needs it
+unread_needs : (e : InputError) (status : Status) (text : List ℕ) → Unread e status text → NeedsInput status → ⊥
+unread_needs inputs.Failed Status.ReadFault text h needs = needs
+unread_needs inputs.TooLong Status.Limit text h needs = needs
+unread_needs e status text h needs = h
+
+needs_whole : (left : Option (List ℕ)) (e : ReadError) (status : Status) (text : List ℕ) → Stops e status text → WasReadWhole left e → NeedsInput status → IsAtEnd left
+needs_whole left (reads.Input e) status text stops whole needs = absurd (unread_needs e status text stops needs)
+needs_whole left (reads.Backup e) status text stops whole needs = whole
+
+pub stopped_whole : (ending : Result Ending AllocError) (left : Option (List ℕ)) (e : ReadError) → IfOk ending (λ x. Stops e x.status (string_bytes x.text)) → WasReadWhole left e → IfOk ending (λ x. NeedsInput x.status → IsAtEnd left)
+stopped_whole (Ok x) left e stops whole = needs_whole left e x.status (string_bytes x.text) stops whole
+stopped_whole (Err x) left e stops whole = tt
+
 -- an ending of this kind
 pub as_ok : (ending : Result Ending AllocError) (e : Ending) (text : List ℕ) → ending ≡ Ok e → text ≡ string_bytes e.text → EndsAs ending e.status text
 as_ok ending e text is spelled = rw is (refl, spelled)
@@ -82,9 +80,15 @@ pub as_err : (ending : Result Ending AllocError) (x : AllocError) → ending ≡
 as_err ending x is = rw is (refl, refl)
 
 -- how far a job read that ends so
-pub read_as : (ending : Result Ending AllocError) (source left : Option (List ℕ)) (before now : ℕ) (status : Status) (text : List ℕ) → IfOk ending (λ e. e.status ≡ Status.Done → IsAtEnd left) → IfOk ending (λ e. e.status ≡ Status.ReadFault → Rose before now) → EndsAs ending status text → HasRead source left before now status
-read_as (Ok e) source left before now status text end fault (is, spelled) = rw is (record { end = end; fault = fault })
-read_as (Err e) source left before now status text end fault (is, spelled) = rw is (record { end = λ x. absurd (memory_not_done x); fault = λ x. absurd (memory_no_fault x) })
+pub read_as : (ending : Result Ending AllocError) (source left : Option (List ℕ)) (before now : ℕ) (status : Status) (text : List ℕ) → GaveAtMost 268435457 source left → IfOk ending (λ e. NeedsInput e.status → IsAtEnd left) → IfOk ending (λ e. e.status ≡ Status.ReadFault → Rose before now)
+    → IfOk ending (λ e. e.status ≡ Status.ReadFault → GaveAtMost 268435456 source left) → EndsAs ending status text → HasRead source left before now status
+read_as (Ok e) source left before now status text taken end fault cut (is, spelled) = rw is (record { taken = taken; end = end; fault = λ x. (fault x, cut x) })
+read_as (Err e) source left before now status text taken end fault cut (is, spelled) = rw is (record { taken = taken; end = λ x. absurd x; fault = λ x. absurd (memory_no_fault x) })
+
+-- what a test of a backup prints that ends so
+pub checked_as : (ending : Result Ending AllocError) (source : Option (List ℕ)) (status : Status) (text : List ℕ) → IfOk ending (λ e. PrintsCheck source e.status (string_bytes e.text)) → EndsAs ending status text → PrintsCheck source status text
+checked_as (Ok e) source status text prints (is, spelled) = rw (is, spelled) prints
+checked_as (Err e) source status text prints (is, spelled) = rw (is, spelled) refl
 
 module _ {D : Type 0} (seen : D → Option (List ℕ)) (faults : D → ℕ) where
   -- a source that did not pass touched no disk

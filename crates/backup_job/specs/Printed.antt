@@ -110,16 +110,26 @@ abbrev pub EndsAs : Result Ending AllocError → Status → List ℕ → Type 0
 EndsAs (Ok e) status text = (status ≡ e.status) × (text ≡ string_bytes e.text)
 EndsAs (Err e) status text = (status ≡ Status.Memory) × (text ≡ memory_text)
 
--- how far a job read its source: at status 0 nothing is left, and a read fault was counted
-pub record HasRead (source left : Option (List ℕ)) (before now : ℕ) (status : Status) : Type 0 where
-  pub end : status ≡ Status.Done → IsAtEnd left
-  pub fault : status ≡ Status.ReadFault → Rose before now
-
 -- a source gave some bytes, at most so many
 abbrev pub GaveAtMost : ℕ → Option (List ℕ) → Option (List ℕ) → Type 0
 GaveAtMost most None left = Unit {0}
 GaveAtMost most (Some bytes) None = ⊥
 GaveAtMost most (Some bytes) (Some left) = (front : List ℕ) × (bytes ≡ front ++ left) × (length front ≤ most)
+
+-- a job ends with this status only if it read its input to the end
+abbrev pub NeedsInput : Status → Type 0
+NeedsInput Status.Done = Unit {0}
+NeedsInput Status.Backup = Unit {0}
+NeedsInput Status.StoreFault = Unit {0}
+NeedsInput status = ⊥
+
+-- How far a job read its source, and how many faults were counted, when it ends with this status. The source gave
+-- at most one byte more than a backup may have. A read fault came before its bytes decided anything: they could be
+-- the front of a backup.
+pub record HasRead (source left : Option (List ℕ)) (before now : ℕ) (status : Status) : Type 0 where
+  pub taken : GaveAtMost 268435457 source left
+  pub end : NeedsInput status → IsAtEnd left
+  pub fault : status ≡ Status.ReadFault → Rose before now × GaveAtMost 268435456 source left
 
 -- bytes that do not pass were read to their end
 abbrev pub WasReadWhole : Option (List ℕ) → ReadError → Type 0

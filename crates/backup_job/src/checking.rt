@@ -6,7 +6,7 @@ ghost use Rattle.ens_outside.specs.Written.{AppendsFront};
 ghost use Rattle.tree_maps.specs.Entries.{IsMap};
 ghost use Rattle.tree_node.specs.Entries.{AreAbove};
 ghost use Rattle.tree_backup.specs.Items.{KeysAbove};
-ghost use Rattle.backup_job.specs.Printed.{GaveAtMost, PrintsCheck, Reads, WasReadWhole};
+ghost use Rattle.backup_job.specs.Printed.{GaveAtMost, HasRead, NeedsInput, PrintsCheck, Reads, WasReadWhole};
 
 use crate::ending::{Ending, counted, print_ending, stopped};
 use crate::input::{InputError, read_all};
@@ -61,9 +61,8 @@ fn check_ending<S: Source, R: Threads + Sync>(
     input: &mut S,
 ) -> Result<Ending, AllocError>
     ensures printed { IfOk result (λ e. PrintsCheck (S.left input.old) e.status (string_bytes e.text)) }
-    ensures end { IfOk result (λ e. e.status ≡ Status.Done → IsAtEnd (S.left input.new)) }
+    ensures end { IfOk result (λ e. NeedsInput e.status → IsAtEnd (S.left input.new)) }
     ensures read { IfOk result (λ e. e.status ≡ Status.ReadFault → Rose (S.fault_count input.old) (S.fault_count input.new)) }
-    ensures whole { IfOk result (λ e. e.status ≡ Status.Backup → IsAtEnd (S.left input.new)) }
     ensures taken { GaveAtMost 268435457 (S.left input.old) (S.left input.new) }
     ensures cut { IfOk result (λ e. e.status ≡ Status.ReadFault → GaveAtMost 268435456 (S.left input.old) (S.left input.new)) }
 {
@@ -86,11 +85,10 @@ pub fn print_check<S: Source, O: Sink, R: Threads + Sync>(
     output: &mut O,
 ) -> Status
     ensures printed { result ≢ Status.WriteFault → (text : List ℕ) × PrintsCheck (S.left input.old) result text × Appends (O.written output.old) (O.written output.new) text }
-    ensures front { result ≡ Status.WriteFault → (status : Status) × (text : List ℕ) × PrintsCheck (S.left input.old) status text × (status ≡ Status.Done → IsAtEnd (S.left input.new)) × (status ≡ Status.ReadFault → Rose (S.fault_count input.old) (S.fault_count input.new)) × AppendsFront (O.written output.old) (O.written output.new) text }
-    ensures end { result ≡ Status.Done → IsAtEnd (S.left input.new) }
+    ensures front { result ≡ Status.WriteFault → (status : Status) × (text : List ℕ) × PrintsCheck (S.left input.old) status text × HasRead (S.left input.old) (S.left input.new) (S.fault_count input.old) (S.fault_count input.new) status × AppendsFront (O.written output.old) (O.written output.new) text }
+    // How far it read: bytes that pass, and bytes that do not, were read to their end.
+    ensures input { result ≢ Status.WriteFault → HasRead (S.left input.old) (S.left input.new) (S.fault_count input.old) (S.fault_count input.new) result }
     ensures read { result ≡ Status.ReadFault → Rose (S.fault_count input.old) (S.fault_count input.new) }
-    // Bytes that do not pass were read to their end.
-    ensures whole { result ≡ Status.Backup → IsAtEnd (S.left input.new) }
     // However it ends, it took at most one byte more than a backup may have.
     ensures taken { GaveAtMost 268435457 (S.left input.old) (S.left input.new) }
     // The input failed before the bytes that it gave decided anything: they could be the front of a backup.

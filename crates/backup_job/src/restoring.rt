@@ -7,7 +7,7 @@ ghost use Rattle.tree_maps.specs.Entries.{IsMap};
 ghost use Rattle.tree_node.specs.Entries.{AreAbove};
 ghost use Rattle.tree_backup.specs.Items.{KeysAbove};
 ghost use Rattle.backup_job.specs.Disks.{Between};
-ghost use Rattle.backup_job.specs.Printed.{GaveAtMost, HasRead};
+ghost use Rattle.backup_job.specs.Printed.{GaveAtMost, HasRead, NeedsInput};
 ghost use Rattle.backup_job.specs.Restored.{EndsWritten, Restored, RestoresTo, Rewrites};
 
 use crate::checking::read_content;
@@ -96,7 +96,7 @@ fn read_and_write<S: Source, D: Disk, R: Threads + Sync>(
     disks: Pair<D>,
 ) -> Outcome<D>
     ensures restored { RestoresTo D.seen D.fault_count (S.left input.old) disks result.disks result.ending }
-    ensures end { IfOk result.ending (λ e. e.status ≡ Status.Done → IsAtEnd (S.left input.new)) }
+    ensures end { IfOk result.ending (λ e. NeedsInput e.status → IsAtEnd (S.left input.new)) }
     ensures read { IfOk result.ending (λ e. e.status ≡ Status.ReadFault → Rose (S.fault_count input.old) (S.fault_count input.new)) }
     ensures taken { GaveAtMost 268435457 (S.left input.old) (S.left input.new) }
     ensures cut { IfOk result.ending (λ e. e.status ≡ Status.ReadFault → GaveAtMost 268435456 (S.left input.old) (S.left input.new)) }
@@ -137,6 +137,7 @@ pub fn restore_disks<S: Source, D: Disk + Drop, O: Sink, R: Threads + Sync>(
     requires there { IsSome nodes.old × IsSome objects.old }
     ensures printed { result ≢ Status.WriteFault → (text : List ℕ) × Between nodes.old objects.old nodes.new objects.new (λ old new. Restored D.seen D.fault_count (S.left input.old) old new result text) × Appends (O.written output.old) (O.written output.new) text }
     ensures front { result ≡ Status.WriteFault → (status : Status) × (text : List ℕ) × Between nodes.old objects.old nodes.new objects.new (λ old new. Restored D.seen D.fault_count (S.left input.old) old new status text) × HasRead (S.left input.old) (S.left input.new) (S.fault_count input.old) (S.fault_count input.new) status × AppendsFront (O.written output.old) (O.written output.new) text }
+    // How far it read: bytes that pass, and bytes that do not, were read to their end.
     ensures input { result ≢ Status.WriteFault → HasRead (S.left input.old) (S.left input.new) (S.fault_count input.old) (S.fault_count input.new) result }
     ensures read { result ≡ Status.ReadFault → Rose (S.fault_count input.old) (S.fault_count input.new) }
     // However it ends, it took at most one byte more than a backup may have.

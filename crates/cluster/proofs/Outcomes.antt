@@ -5,6 +5,7 @@ use Rattle.std.specs.Io.KnownBytes.{IsAtEnd}
 use Rattle.ens_base.specs.Causes.{Rose}
 use Rattle.ens_base.specs.declared.peer_words.ClusterWords.{ClusterWords}
 use Rattle.ens_base.specs.declared.status.Status.{Status}
+use Rattle.ens_base.proofs.Statuses.{memory_no_fault}
 use Rattle.ens_hashing.specs.Hashing.{KeepsNothing}
 use Rattle.ens_outside.specs.declared.errors.LinkError.{LinkError}
 use Rattle.ens_outside.specs.declared.errors.LinkError.TheVariants as links
@@ -17,7 +18,8 @@ use Rattle.cluster_spec.proofs.Schedules.{recorded_is, recorded_sound}
 use Rattle.cluster_spec.specs.Messages.{AllRecorded}
 use Rattle.cluster_spec.specs.Recordings.{Follows, IsPart, Recording, frames_of}
 use Rattle.world_model.specs.HeldStores.{Account, HasHashed, HasNoClash}
-use Rattle.line_reading.specs.Reading.{WasCutOff}
+use Rattle.line_reading.specs.Counting.{WasCutOff, WasTakenTo}
+use Rattle.line_reading.proofs.Counting.{taken_none}
 use Rattle.replay.proofs.Endings.{book_ends, clash_ends, limit_ends, run_done}
 use Rattle.replay.specs.Jobs.{clash_line, hashed_by}
 use Rattle.replay.specs.Stops.{StopsIn}
@@ -223,13 +225,14 @@ module _ {L : Type 0} (sent : L → Option (List (ℕ × List ℕ))) (given : L 
       subst (λ (st : Status). Ends sent given faults first now w source a b st printed) (sym is) (subst (λ (t : List ℕ). Ends sent given faults first now w source a b status t) (sym are) ends)
 
   -- how far the source was read
-  pub read_whole : (script : List ScriptLine) (source left : Option (List ℕ)) (before later : ℕ) (b : L) (now : Account) (status : Status) (text : List ℕ) → IsAtEnd left → RunEnds sent given faults first now w script a b status text → HasRead w source left before later status
-  read_whole script source left before later b now Status.Done text end ends = end
-  read_whole script source left before later b now Status.Clash text end ends = end
-  read_whole script source left before later b now Status.LinkFault text end ends = end
-  read_whole script source left before later b now Status.Limit text end ends = inr end
-  read_whole script source left before later b now Status.ReadFault text end ends = absurd ends
-  read_whole script source left before later b now status text end ends = tt
+  pub read_whole : (script : List ScriptLine) (source left : Option (List ℕ)) (before later : ℕ) (b : L) (now : Account) (status : Status) (text : List ℕ) → WasTakenTo (next_line w.peers) ended [] length source left → IsAtEnd left → RunEnds sent given faults first now w script a b status text
+      → HasRead w source left before later status
+  read_whole script source left before later b now status text taken end ends = record {
+    taken = taken;
+    end = λ needs. end;
+    limit = λ e. inr end;
+    fault = λ e. absurd (subst (λ (st : Status). RunEnds sent given faults first now w script a b st text) e ends);
+  }
 
   pub run_status : (script : List ScriptLine) (b : L) (now : Account) (status : Status) (text : List ℕ) → RunEnds sent given faults first now w script a b status text → status ≢ Status.WriteFault
   run_status script b now status text ends same = subst (λ (st : Status). RunEnds sent given faults first now w script a b st text) same ends
@@ -249,12 +252,53 @@ pub OnErr-weaker : {A E : Type 0} (r : Result A E) (X Y : Type 0) → (X → Y) 
 OnErr-weaker (Ok x) X Y by is = tt
 OnErr-weaker (Err e) X Y by is = by is
 
+-- a status that is no other
+schedule_no_limit : ◌≡◌ {A = Status} Status.Schedule Status.Limit → ⊥
+schedule_no_limit e = cc e
+
+schedule_no_fault : ◌≡◌ {A = Status} Status.Schedule Status.ReadFault → ⊥
+schedule_no_fault e = cc e
+
+limit_no_fault : ◌≡◌ {A = Status} Status.Limit Status.ReadFault → ⊥
+limit_no_fault e = cc e
+
+fault_no_limit : ◌≡◌ {A = Status} Status.ReadFault Status.Limit → ⊥
+fault_no_limit e = cc e
+
+memory_no_limit : ◌≡◌ {A = Status} Status.Memory Status.Limit → ⊥
+memory_no_limit e = cc e
+
+usage_no_limit : ◌≡◌ {A = Status} Status.Usage Status.Limit → ⊥
+usage_no_limit e = cc e
+
+usage_no_fault : ◌≡◌ {A = Status} Status.Usage Status.ReadFault → ⊥
+usage_no_fault e = cc e
+
+-- how far a job read its source that memory ran out for, or that did not begin
+pub memory_taken : (w : ClusterWords) (source left : Option (List ℕ)) (before later : ℕ) → WasTakenTo (next_line w.peers) ended [] length source left → HasRead w source left before later Status.Memory
+memory_taken w source left before later taken = record { taken = taken; end = λ needs. absurd needs; limit = λ e. absurd (memory_no_limit e); fault = λ e. absurd (memory_no_fault e) }
+
+pub memory_read : (w : ClusterWords) (source : Option (List ℕ)) (before later : ℕ) → HasRead w source source before later Status.Memory
+memory_read w source before later = memory_taken w source source before later (taken_none (next_line w.peers) ended [] length source (omega arith))
+
+pub usage_read : (w : ClusterWords) (source : Option (List ℕ)) (before later : ℕ) → HasRead w source source before later Status.Usage
+usage_read w source before later = record {
+  taken = taken_none (next_line w.peers) ended [] length source (omega arith);
+  end = λ needs. absurd needs;
+  limit = λ e. absurd (usage_no_limit e);
+  fault = λ e. absurd (usage_no_fault e);
+}
+
 -- an error of reading, and how far it read
-pub unread_read : (w : ClusterWords) (source left : Option (List ℕ)) (before later : ℕ) (error : ReadError) (status : Status) (text : List ℕ) → IsUnread w.peers source error status text → (error ≡ read.Failed → Rose before later × WasCutOff (next_line w.peers) ended [] source left) → HasRead w source left before later status
-unread_read w source left before later (read.Bad line cause) status text unread failed = subst (HasRead w source left before later) (sym unread.0) tt
-unread_read w source left before later read.Lines status text unread failed = subst (HasRead w source left before later) (sym unread.0) (inl unread.1)
-unread_read w source left before later read.Failed status text unread failed = subst (HasRead w source left before later) (sym unread.0) (failed refl)
-unread_read w source left before later read.Memory status text unread failed = absurd unread
+pub unread_read : (w : ClusterWords) (source left : Option (List ℕ)) (before later : ℕ) (error : ReadError) (status : Status) (text : List ℕ) → WasTakenTo (next_line w.peers) ended [] length source left → IsUnread w.peers source error status text
+    → (error ≡ read.Failed → Rose before later × WasCutOff (next_line w.peers) ended [] length source left) → HasRead w source left before later status
+unread_read w source left before later (read.Bad line cause) status text taken unread failed =
+    subst (HasRead w source left before later) (sym unread.0) (record { taken = taken; end = λ needs. absurd needs; limit = λ e. absurd (schedule_no_limit e); fault = λ e. absurd (schedule_no_fault e) })
+unread_read w source left before later read.Lines status text taken unread failed =
+    subst (HasRead w source left before later) (sym unread.0) (record { taken = taken; end = λ needs. absurd needs; limit = λ e. inl unread.1; fault = λ e. absurd (limit_no_fault e) })
+unread_read w source left before later read.Failed status text taken unread failed =
+    subst (HasRead w source left before later) (sym unread.0) (record { taken = taken; end = λ needs. absurd needs; limit = λ e. absurd (fault_no_limit e); fault = λ e. failed refl })
+unread_read w source left before later read.Memory status text taken unread failed = absurd unread
 
 pub unread_status : (peers : ℕ) (source : Option (List ℕ)) (error : ReadError) (status : Status) (text : List ℕ) → IsUnread peers source error status text → status ≢ Status.WriteFault
 unread_status peers source (read.Bad line cause) status text unread same = no_write (sym unread.0 ∙ same)

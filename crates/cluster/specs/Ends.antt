@@ -10,7 +10,7 @@ use Rattle.cluster_script.specs.declared.line.ScriptLine.{ScriptLine}
 use Rattle.cluster_script.specs.declared.line.ScriptLine.TheVariants.{Event, Turn}
 use Rattle.cluster_spec.specs.Recordings.{Follows, IsPart, Recording, frame_out, frames_of, heard, heard_all, nothing_recorded, recorded, recorded_form}
 use Rattle.world_model.specs.HeldStores.{Account, HasHashed}
-use Rattle.line_reading.specs.Reading.{WasCutOff}
+use Rattle.line_reading.specs.Counting.{WasCutOff, WasTakenTo}
 use Rattle.replay.specs.Jobs.{PrintsWith, nothing_hashed}
 use Rattle.replay.specs.Text.{record_text}
 use Rattle.schedule_input.specs.Endings.{bad_line}
@@ -90,15 +90,20 @@ IsLinesText text = text ≡ codes "limit lines 200000" ++ 10 ∷ []
 abbrev pub IsMemoryText : List ℕ → Type 0
 IsMemoryText text = text ≡ codes "memory" ++ 10 ∷ []
 
+-- a job ends with this status only if it read a script
+abbrev pub NeedsScript : Status → Type 0
+NeedsScript Status.Done = Unit {0}
+NeedsScript Status.Clash = Unit {0}
+NeedsScript Status.LinkFault = Unit {0}
+NeedsScript status = ⊥
+
 -- How far a job with this status read its source, and how many faults were counted. Of a script nothing is left,
 -- and at a limit nothing is left, or line 200,001 begins. A read fault came before the bytes decided anything.
-abbrev pub HasRead : ClusterWords → (source left : Option (List ℕ)) → (before now : ℕ) → Status → Type 0
-HasRead w source left before now Status.Done = IsAtEnd left
-HasRead w source left before now Status.Clash = IsAtEnd left
-HasRead w source left before now Status.LinkFault = IsAtEnd left
-HasRead w source left before now Status.Limit = IfSome source (λ bytes. script_of w.peers bytes ≡ Err schedule.Lines) ⊎ IsAtEnd left
-HasRead w source left before now Status.ReadFault = Rose before now × WasCutOff (next_line w.peers) ended [] source left
-HasRead w source left before now status = Unit {0}
+pub record HasRead (w : ClusterWords) (source left : Option (List ℕ)) (before now : ℕ) (status : Status) : Type 0 where
+  pub taken : WasTakenTo (next_line w.peers) ended [] length source left
+  pub end : NeedsScript status → IsAtEnd left
+  pub limit : status ≡ Status.Limit → IfSome source (λ bytes. script_of w.peers bytes ≡ Err schedule.Lines) ⊎ IsAtEnd left
+  pub fault : status ≡ Status.ReadFault → Rose before now × WasCutOff (next_line w.peers) ended [] length source left
 
 module _ {L : Type 0} (sent : L → Option (List (ℕ × List ℕ))) (given : L → Option (List (Option (List ℕ)))) where
   -- between these states of the link its looks gave this, and these frames were handed to it

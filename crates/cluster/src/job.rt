@@ -1,10 +1,11 @@
-ghost use Rattle.std.specs.Prelude.{◌≡◌, ◌≢◌, ◌++◌, ◌∷◌, [], ℕ, List, IfOk, OnErr, codes};
+ghost use Rattle.std.specs.Prelude.{◌≡◌, ◌≢◌, ◌++◌, ◌∷◌, [], ℕ, List, IfOk, OnErr, codes, length};
 ghost use Rattle.std.specs.Io.KnownBytes.{Appends};
 ghost use Rattle.cluster.specs.Ends.{Ends, EndsOverBook, HasRead, IsCluster, RunEnds};
-ghost use Rattle.cluster_script.specs.Scripts.{IsScript};
+ghost use Rattle.cluster_script.specs.Scripts.{IsScript, ended, next_line};
 ghost use Rattle.ens_base.specs.Causes.{Rose};
 ghost use Rattle.ens_base.specs.declared.status.Status.{Status};
 ghost use Rattle.ens_outside.specs.Written.{AppendsFront};
+ghost use Rattle.line_reading.specs.Counting.{WasTakenTo};
 ghost use Rattle.world_model.specs.HeldStores.{account};
 
 use crate::ending::{Printout, stopped, unread};
@@ -54,6 +55,7 @@ fn cluster_ending<S: Source, L: Link, H: Hasher16, R: Threads + Sync>(
     requires { IsCluster words.now }
     ensures ends { IfOk result (λ p. Ends L.sent L.given L.fault_count (account H.kept H.clashes H.fulls hasher.old) (account H.kept H.clashes H.fulls hasher.new) words.now (S.left input.old) link.old link.new p.status p.text.items) }
     ensures memory { OnErr result (Ends L.sent L.given L.fault_count (account H.kept H.clashes H.fulls hasher.old) (account H.kept H.clashes H.fulls hasher.new) words.now (S.left input.old) link.old link.new Status.Memory (codes "memory" ++ 10 ∷ [])) }
+    ensures taken { WasTakenTo (next_line words.now.peers) ended [] length (S.left input.old) (S.left input.new) }
     ensures read { IfOk result (λ p. HasRead words.now (S.left input.old) (S.left input.new) (S.fault_count input.old) (S.fault_count input.new) p.status) }
     ensures status { IfOk result (λ p. p.status ≢ Status.WriteFault) }
 {

@@ -2,7 +2,8 @@ ghost use Rattle.std.specs.Prelude.{◌≡◌, ◌≢◌, ◌+◌, ◌<◌, ◌�
 ghost use Rattle.std.specs.Io.KnownBytes.{prepend_known, IsAtEnd};
 ghost use Rattle.ens_base.specs.Causes.{Rose};
 ghost use Rattle.ens_outside.specs.Lines.{BeginsLong};
-ghost use Rattle.line_reading.specs.Reading.{HasTaken, ReadsAs, ReadsOn, WasCutOff};
+ghost use Rattle.line_reading.specs.Counting.{HasCounted, WasCutOff, WasTakenTo};
+ghost use Rattle.line_reading.specs.Reading.{ReadsAs, ReadsOn};
 ghost use Rattle.cluster_script.specs.Reading.{Refuses, of_schedule};
 ghost use Rattle.cluster_script.specs.Scripts.{IsScript, ended, next_line, script_of};
 
@@ -69,8 +70,9 @@ fn take_line<S: Source>(
     ensures bad { IfErr result (Refuses reading.old.peers (prepend_known lines.old.pending.items (S.left input.old)) reading.old.lines.items) }
     ensures later { S.fault_count input.old ≤ S.fault_count input.new }
     ensures failed { IsErrOf result ReadError.Failed → Rose (S.fault_count input.old) (S.fault_count input.new) }
-    ensures held { IfOk result (λ o. IfNone o ((source : Option (List ℕ)) → HasTaken (next_line reading.old.peers) ended [] source lines.old.pending.items (S.left input.old) reading.old.lines.items → HasTaken (next_line reading.old.peers) ended [] source lines.new.pending.items (S.left input.new) reading.new.lines.items)) }
-    ensures cut { IsErrOf result ReadError.Failed → (source : Option (List ℕ)) → HasTaken (next_line reading.old.peers) ended [] source lines.old.pending.items (S.left input.old) reading.old.lines.items → WasCutOff (next_line reading.old.peers) ended [] source (S.left input.new) }
+    ensures held { IfOk result (λ o. IfNone o ((source : Option (List ℕ)) → HasCounted (next_line reading.old.peers) ended [] length source lines.old.pending.items (S.left input.old) reading.old.lines.items → HasCounted (next_line reading.old.peers) ended [] length source lines.new.pending.items (S.left input.new) reading.new.lines.items)) }
+    ensures taken { (source : Option (List ℕ)) → HasCounted (next_line reading.old.peers) ended [] length source lines.old.pending.items (S.left input.old) reading.old.lines.items → length reading.old.lines.items < 200000 → WasTakenTo (next_line reading.old.peers) ended [] length source (S.left input.new) }
+    ensures cut { IsErrOf result ReadError.Failed → (source : Option (List ℕ)) → HasCounted (next_line reading.old.peers) ended [] length source lines.old.pending.items (S.left input.old) reading.old.lines.items → length reading.old.lines.items < 200000 → WasCutOff (next_line reading.old.peers) ended [] length source (S.left input.new) }
 {
     match lines.next(alloc, input)? {
         Next::Line(line) => {
@@ -105,7 +107,8 @@ fn end_of(reading: ScriptReading, rest: &[u8]) -> Result<Seq<ScriptLine>, ReadEr
 }
 
 /// Reads a script for `peers` peers up to the end of the source, its first bad line, or the first byte of line
-/// 200,001.
+/// 200,001. Takes at most 4,401 bytes from the beginning of the first bad line on, and at most 880,200,001
+/// bytes in all.
 #[tactic(auto, using(crate::proofs::Standing::nothing_stands))]
 pub fn read_script<S: Source>(
     alloc: Global,
@@ -118,8 +121,10 @@ pub fn read_script<S: Source>(
     ensures bad { IfErr result (Refuses peers (S.left input.old) []) }
     ensures later { S.fault_count input.old ≤ S.fault_count input.new }
     ensures failed { IsErrOf result ReadError.Failed → Rose (S.fault_count input.old) (S.fault_count input.new) }
+    // However it ends, it took lines none of which is bad, and at most 4,401 bytes after them.
+    ensures taken { WasTakenTo (next_line peers) ended [] length (S.left input.old) (S.left input.new) }
     // The source failed before the bytes that it gave decided anything.
-    ensures cut { IsErrOf result ReadError.Failed → WasCutOff (next_line peers) ended [] (S.left input.old) (S.left input.new) }
+    ensures cut { IsErrOf result ReadError.Failed → WasCutOff (next_line peers) ended [] length (S.left input.old) (S.left input.new) }
 {
     let mut lines = Lines::new(alloc);
     let mut reading = ScriptReading::new(alloc, peers);

@@ -8,11 +8,13 @@ use Rattle.ens_words.specs.declared.job.Job.TheVariants.{Replay, Peer, Cluster, 
 use Rattle.ens_words.specs.declared.job.WordsError.TheVariants.{Usage}
 use Rattle.ens_words.proofs.Exactly.{job_back}
 use Rattle.ens_words.specs.Reading.{job_of}
-use Rattle.backup_job.proofs.Completing.{memory_read as check_memory_read, usage_read as check_usage_read, at_usage, fault_at_usage}
+use Rattle.backup_job.proofs.Completing.{memory_read as check_memory_read, usage_read as check_usage_read, fault_at_usage}
 use Rattle.backup_job.specs.Printed.{HasRead as HasReadBackup}
+use Rattle.cluster.proofs.Outcomes.{memory_read as script_memory_read, usage_read as script_usage_read}
 use Rattle.ensemble_root.proofs.Completing.{memory_read as root_memory_read, usage_read as root_usage_read}
 use Rattle.ensemble_root.specs.Jobs.{HasRead as HasReadRoot}
 use Rattle.generated_laws.proofs.Short.{completed}
+use Rattle.record_input.proofs.Cutting.{none_taken as record_none_taken}
 use Rattle.replay.proofs.Completing.{memory_read, usage_read}
 use Rattle.replay.specs.Jobs.{HasRead}
 use Rattle.replay.specs.Summary.{EndsInSummary}
@@ -70,26 +72,29 @@ given_did_read given words Q f is job asks = f job (subst (λ (g : Result (List 
 pub not_to_read : (given : Result (List (List ℕ)) ArgumentsError) (words : List (List ℕ)) (Q : Type 0) → (¬ AskToRead words → Q) → given ≡ Ok words → ¬ GivenToRead given → Q
 not_to_read given words Q f is none = f (λ asks. none (subst GivenToRead (sym is) asks))
 
+at_usage : ◌≡◌ {A = Status} Status.Usage Status.Done → ⊥
+at_usage e = cc e
+
 pub usage_did_read : (job : Job) (source : Option (List ℕ)) (before now : ℕ) → DidRead job source source before now Status.Usage
 usage_did_read Replay source before now = usage_read source before now
-usage_did_read Audit source before now = record { end = λ e. absurd (at_usage e); fault = λ e. absurd (fault_at_usage e); cut = λ e. absurd (fault_at_usage e) }
+usage_did_read Audit source before now = record { taken = record_none_taken source; end = λ e. absurd (at_usage e); fault = λ e. absurd (fault_at_usage e); cut = λ e. absurd (fault_at_usage e) }
 usage_did_read Backup source before now = tt
 usage_did_read Check source before now = check_usage_read source before now
 usage_did_read Restore source before now = check_usage_read source before now
 usage_did_read Root source before now = root_usage_read source before now
 usage_did_read (Peer w) source before now = tt
-usage_did_read (Cluster w) source before now = tt
+usage_did_read (Cluster w) source before now = script_usage_read w source before now
 usage_did_read (Generate number calls summary) source before now = tt
 
 pub memory_did_read : (job : Job) (source : Option (List ℕ)) (before now : ℕ) → DidRead job source source before now Status.Memory
 memory_did_read Replay source before now = memory_read source before now
-memory_did_read Audit source before now = record { end = λ e. absurd (memory_not_done e); fault = λ e. absurd (memory_no_fault e); cut = λ e. absurd (memory_no_fault e) }
+memory_did_read Audit source before now = record { taken = record_none_taken source; end = λ e. absurd (memory_not_done e); fault = λ e. absurd (memory_no_fault e); cut = λ e. absurd (memory_no_fault e) }
 memory_did_read Backup source before now = tt
 memory_did_read Check source before now = check_memory_read source before now
 memory_did_read Restore source before now = check_memory_read source before now
 memory_did_read Root source before now = root_memory_read source before now
 memory_did_read (Peer w) source before now = tt
-memory_did_read (Cluster w) source before now = tt
+memory_did_read (Cluster w) source before now = script_memory_read w source before now
 memory_did_read (Generate number calls summary) source before now = tt
 
 -- the same at a status that is known to be this one

@@ -1,5 +1,5 @@
 -- What a cluster prints, and what became of it, for the words that asked for it.
-use Rattle.std.proofs.Common.{◌≡◌, ◌⊎◌, ℕ, List, [], ◌∷◌, take, drop, Option, None, refl, inl, inr, ap, subst}
+use Rattle.std.proofs.Common.{◌≡◌, ◌⊎◌, ◌∙◌, ℕ, List, [], ◌∷◌, take, drop, Option, None, refl, sym, inl, inr, ap, subst}
 use Rattle.std.specs.Io.KnownBytes.{Appends}
 use Rattle.cluster.specs.Ends.{BrokenOff, EndsOverBook, HasRead, IsCluster, Looked, PrintsRecord, RunEnds, Stopped, Unread, Went, opening}
 use Rattle.cluster_script.specs.declared.line.ScriptLine.{ScriptLine}
@@ -28,8 +28,10 @@ did_read_script job w source left before now status is has = rw is has
 
 -- at a read fault the source counted it
 pub read_rose : (w : ClusterWords) (source left : Option (List ℕ)) (before now : ℕ) (result : Status) → result ≡ Status.ReadFault → ((result ≡ Status.WriteFault → ⊥) → HasRead w source left before now result) → Rose before now
-read_rose w source left before now Status.ReadFault is has = (has (λ e. cc e)).0
-read_rose w source left before now result is has = absurd cc
+read_rose w source left before now result is has = ((has (λ e. no_write (sym is ∙ e))).fault is).0
+  where
+    no_write : ◌≡◌ {A = Status} Status.ReadFault Status.WriteFault → ⊥
+    no_write e = cc e
 
 -- ---- the link makes no difference to what is printed
 

@@ -20,7 +20,7 @@ use Rattle.ens_words.specs.declared.job.Job.TheVariants.{Replay, Peer, Cluster, 
 use Rattle.ensemble_root.specs.Jobs.{HasRead as HasReadRoot, IsRunnable as IsRunnableRoot, Prints as PrintsRoot}
 use Rattle.peer_serve.specs.Faults.{fault_text}
 use Rattle.peer_serve.specs.Serving.{counts_text}
-use Rattle.record_input.specs.Reading.{WasCutOff}
+use Rattle.record_input.specs.Reading.{WasCutOff, WasTakenTo}
 use Rattle.record_report.specs.Printed.{IsAuditable, PrintsReport}
 use Rattle.generated_laws.specs.Completed.{CompletesAll}
 use Rattle.held_stores.specs.Held.{HasNoClash}
@@ -48,6 +48,7 @@ AskToRead words = (job : Job) × AskFor words job × ReadsInput job
 -- how far an audit read its source: at status 0 nothing is left, and a read fault was counted, and came
 -- before the bytes that the source gave decided anything
 pub record HasReadRecord (source left : Option (List ℕ)) (before now : ℕ) (status : Status) : Type 0 where
+  pub taken : WasTakenTo source left
   pub end : status ≡ Status.Done → IsAtEnd left
   pub fault : status ≡ Status.ReadFault → Rose before now
   pub cut : status ≡ Status.ReadFault → WasCutOff source left

@@ -1,6 +1,5 @@
 -- What a reader of lines makes of a text, and how far a source was read.
 use Rattle.std.specs.Prelude.{◌≡◌, ◌++◌, ℕ, List, [], ◌∷◌, Option, None, Some, Result, Ok, Err, IfSome}
-use Rattle.ens_outside.specs.Lines.{IsLine}
 use Rattle.schedule_words.specs.Words.{parts_of}
 
 -- A reader: what the next line makes of what was read so far, and what the end of the text makes of it and
@@ -47,19 +46,3 @@ module _ {S R E : Type 0} (next : S → List ℕ → Result S E) (end : S → Li
   HasTaken first None pending left s = Unit {0}
   HasTaken first (Some bytes) pending None s = ⊥
   HasTaken first (Some bytes) pending (Some left) s = IsReading first bytes pending left s
-
-  -- Of a source that held the first bytes the second ones are left. It failed before the bytes that it gave
-  -- decided anything: after lines none of which is bad come at most 4,400 bytes without a line feed.
-  pub record IsCutOff (first : S) (bytes left : List ℕ) : Type 0 where
-    pub lines : List ℕ
-    pub more : List ℕ
-    pub s : S
-    pub are : bytes ≡ lines ++ (more ++ left)
-    pub good : ComeTo first lines s
-    pub undecided : IsLine more
-
-  -- the same if the bytes are known
-  abbrev pub WasCutOff : S → Option (List ℕ) → Option (List ℕ) → Type 0
-  WasCutOff first None left = Unit {0}
-  WasCutOff first (Some bytes) None = ⊥
-  WasCutOff first (Some bytes) (Some left) = IsCutOff first bytes left

@@ -1,21 +1,15 @@
 -- Reading goes on alike where the last history is shortened.
-use Rattle.std.proofs.Common.{◌≡◌, ℕ, List, [], ◌∷◌, Option, None, Some, Result, Ok, Err, refl, sym, ap, ◌∙◌}
+use Rattle.std.proofs.Common.{◌≡◌, ℕ, List, [], ◌∷◌, Option, None, Some, Result, Ok, Err, sym, ap, ◌∙◌}
 use Rattle.std.specs.Prelude.{IfOk, IfSome, OnOk}
 use Rattle.std.specs.Io.KnownBytes.{IsAtEnd, prepend_known}
 use Rattle.schedule_words.specs.Words.{parts_of}
 use Rattle.history_record.specs.Reading.{Stage, end_stage, first_stage, read_parts}
 use Rattle.history_record.specs.Shortened.{short_result, stage_with_short_last}
-use Rattle.history_record.specs.declared.error.AuditError.{AuditError}
-use Rattle.history_record.specs.declared.error.AuditError.TheVariants.{Bad, Lines}
 use Rattle.history_record.specs.declared.record.Record.{Record}
-use Rattle.history_record.proofs.Shortening.{last_stage, parts_alike, short_error, short_like}
-use Rattle.record_input.specs.Reading.{IsLike, ReadsAlike, ReadsAs, ReadsOn, Refuses}
+use Rattle.history_record.proofs.Shortening.{last_stage, parts_alike, short_like}
+use Rattle.record_input.specs.Reading.{IsLike, ReadsAlike, ReadsAs, ReadsOn}
 use Rattle.record_input.specs.declared.read.ReadError.{ReadError}
 use Rattle.record_input.specs.declared.read.ReadError.TheVariants as read
-
-pub alike_first : (a : Option (List ℕ)) (s : Stage) → ReadsAlike a s (prepend_known [] a) s
-alike_first None s = tt
-alike_first (Some x) s = refl
 
 -- one line more, after which the last history is shortened
 pub alike_on : (a b c : Option (List ℕ)) (s t u v : Stage) → ReadsAlike a s b t → ReadsOn b t c u → v ≡ stage_with_short_last u → ReadsAlike a s c v
@@ -24,17 +18,6 @@ alike_on (Some x) None c s t u v first second short = absurd first
 alike_on (Some x) (Some y) None s t u v first second short = absurd second
 alike_on (Some x) (Some y) (Some z) s t u v first second short =
     first ∙ ap short_result second ∙ sym (ap (λ (w : Stage). short_result (read_parts w (parts_of 10 z))) short ∙ parts_alike (parts_of 10 z) (stage_with_short_last u) u (last_stage u))
-
-alike_error : (a b : Option (List ℕ)) (s t : Stage) (e : AuditError) → ReadsAlike a s b t → ReadsAs b t (Err e) → ReadsAs a s (Err e)
-alike_error None b s t e alike bad = tt
-alike_error (Some x) None s t e alike bad = absurd alike
-alike_error (Some x) (Some y) s t e alike bad = short_error (read_parts s (parts_of 10 x)) e (alike ∙ ap short_result bad)
-
-pub refuses_alike : (a b : Option (List ℕ)) (s t : Stage) (e : ReadError) → ReadsAlike a s b t → Refuses b t e → Refuses a s e
-refuses_alike a b s t (read.Bad line cause) alike bad = alike_error a b s t (Bad line cause) alike bad
-refuses_alike a b s t read.Lines alike bad = alike_error a b s t Lines alike bad
-refuses_alike a b s t read.Failed alike bad = tt
-refuses_alike a b s t read.Memory alike bad = tt
 
 -- the record at the end
 pub like_read : (a b : Option (List ℕ)) (t : Stage) (v : List ℕ) (r : Record) → ReadsAlike a first_stage b t → ReadsAs b t (end_stage t v) → end_stage t v ≡ Ok r → IfSome a (λ bytes. IsLike bytes r)

@@ -4,6 +4,7 @@ use Rattle.std.specs.Io.KnownBytes.{Consumes, Keeps, prepend_known}
 use Rattle.ens_outside.specs.Lines.{HasNoFeed}
 use Rattle.ens_outside.specs.declared.lines.NextError.{NextError}
 use Rattle.ens_outside.specs.declared.lines.NextError.TheVariants as next
+use Rattle.line_reading.proofs.Cutting.{kept_takes, with_pending}
 use Rattle.schedule_words.specs.Words.{parts_of}
 use Rattle.history_record.specs.Reading.{Stage, and_then, first_stage, most_in, next_stage, read_parts}
 use Rattle.history_record.specs.declared.error.AuditError.{AuditError}
@@ -14,11 +15,6 @@ use Rattle.record_input.specs.Reading.{HasTaken, WasCutOff, WasTakenTo, of_next}
 use Rattle.record_input.specs.declared.read.ReadError.{ReadError}
 use Rattle.record_input.specs.declared.read.ReadError.TheVariants as read
 use Rattle.record_input.proofs.Parts.{read_line}
-
--- no line yet
-pub taken_first : (source : Option (List ℕ)) → HasTaken source [] source first_stage
-taken_first None = tt
-taken_first (Some bytes) = record { lines = []; told = first_stage; are = refl; good = λ rest. refl; alike = refl }
 
 -- one more line
 pub taken_next : (source old new : Option (List ℕ)) (was pending : List ℕ) (s t : Stage) (v : List ℕ) → HasNoFeed v → next_stage s v ≡ Ok t → Consumes (prepend_known was old) (prepend_known pending new) (v ++ 10 ∷ [])
@@ -64,17 +60,6 @@ cut_off (Some bytes) (Some x) (Some y) was pending s h kept line = record {
 
 -- ## How much was taken
 
--- the bytes that a call consumed, and the pending ones after them
-with_pending : (old left : Option (List ℕ)) (bytes pending : List ℕ) → Consumes old (prepend_known pending left) bytes → Consumes old left (bytes ++ pending)
-with_pending None left bytes pending took = tt
-with_pending (Some x) None bytes pending took = absurd took
-with_pending (Some x) (Some y) bytes pending took = took ∙ sym (append_assoc bytes pending y)
-
-kept_takes : (old new : Option (List ℕ)) → Keeps old new → Consumes old new []
-kept_takes None new kept = tt
-kept_takes (Some x) None kept = absurd kept
-kept_takes (Some x) (Some y) kept = sym kept
-
 taken_more : (source old left : Option (List ℕ)) (was more : List ℕ) (s : Stage) → Consumes (prepend_known was old) left more → length more ≤ most_in s + 1 → HasTaken source was old s → WasTakenTo source left
 taken_more None old left was more s took few h = tt
 taken_more (Some bytes) None left was more s took few h = absurd h
@@ -97,3 +82,8 @@ taken_to source old left was bytes pending s size is took few h =
 -- a call that kept the bytes, and left these pending
 pub taken_none : (source old left : Option (List ℕ)) (was pending : List ℕ) (s : Stage) → Keeps (prepend_known was old) (prepend_known pending left) → length pending ≤ most_in s + 1 → HasTaken source was old s → WasTakenTo source left
 taken_none source old left was pending s kept few h = taken_more source old left was pending s (with_pending (prepend_known was old) left [] pending (kept_takes (prepend_known was old) (prepend_known pending left) kept)) few h
+
+-- a source that was not read
+pub none_taken : (source : Option (List ℕ)) → WasTakenTo source source
+none_taken None = tt
+none_taken (Some bytes) = record { lines = []; more = []; stage = first_stage; are = refl; good = λ rest. refl; few = omega arith }

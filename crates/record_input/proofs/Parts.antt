@@ -71,11 +71,6 @@ rest_read (Some x) (Some y) s v clear took end =
     let is : x ≡ v = took ∙ ap (λ (l : List ℕ). v ++ l) end ∙ append-nil v in
     ap (λ (l : List ℕ). read_parts s (parts_of 10 l)) is ∙ ap (λ (l : List (List ℕ)). read_parts s l) (slice_split_none (λ b. b == 10) v (no_feeds v clear))
 
-pub refuses_rest : (a : Option (List ℕ)) (s : Stage) (v : List ℕ) (e : AuditError) → end_stage s v ≡ Err e → ReadsAs a s (end_stage s v) → Refuses a s (of_audit e)
-refuses_rest a s v (Bad line cause) is read = let P : Result Record AuditError → Type 0 = λ r. ReadsAs a s r in subst P is read
-refuses_rest a s v Lines is read = let P : Result Record AuditError → Type 0 = λ r. ReadsAs a s r in subst P is read
-refuses_rest a s v Memory is read = tt
-
 -- one step of reading after another
 pub reads_on : (a b c : Option (List ℕ)) (s t u : Stage) → ReadsOn a s b t → ReadsOn b t c u → ReadsOn a s c u
 reads_on None b c s t u first second = tt

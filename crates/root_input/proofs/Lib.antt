@@ -1,4 +1,3 @@
 mod Numbered
-mod Counting
 mod Refusing
 pub mod Scripts

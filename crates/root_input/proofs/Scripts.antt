@@ -1,7 +1,7 @@
 -- The lines of a script are numbered and counted, and what is read to the end is a script.
 use Rattle.std.proofs.Common.{◌≡◌, ℕ, ◌+◌, Bool, true, false, if◌then◌else◌, List, [], ◌∷◌, ◌++◌, length, Result, Ok, Err, refl, sym, ap, ◌∙◌, arith, length-append}
 use Rattle.ens_base.specs.Lists.{same_bytes}
-use Rattle.root_input.specs.Counting.{IsReached}
+use Rattle.line_reading.specs.Counting.{IsReached}
 use Rattle.schedule_words.specs.Words.{words_of}
 use Rattle.schedule_words.specs.declared.cause.Cause.{Cause}
 use Rattle.schedule_words.specs.declared.cause.Cause.TheVariants.{Repeated, Heading}

@@ -7,7 +7,7 @@ use Rattle.schedule_text.specs.declared.error.ScheduleError.{ScheduleError}
 use Rattle.schedule_text.specs.declared.error.ScheduleError.TheVariants as schedule
 use Rattle.schedule_input.specs.declared.read.ReadError.{ReadError}
 use Rattle.schedule_input.specs.declared.read.ReadError.TheVariants as read
-use Rattle.root_input.specs.Counting.{AreTaken, AreUndecided, Gave}
+use Rattle.line_reading.specs.Counting as counting
 
 -- An error and the bytes to come: it names their first bad line and its cause, or they have too many lines. A
 -- reader says which lines are bad.
@@ -23,8 +23,8 @@ Refuses rest p error = RefusesBy next_line ended rest p error
 -- Of a source that held the first bytes the second ones are left. It gave at most 200,000 lines, none of which
 -- is bad, and after them no more bytes than the longest line has; on the whole no more than `most_taken`.
 abbrev pub WasTakenTo : Option (List ℕ) → Option (List ℕ) → Type 0
-WasTakenTo source left = Gave next_line ended Blank (AreTaken lines_so_far) source left
+WasTakenTo source left = counting.WasTakenTo next_line ended Blank lines_so_far source left
 
 -- the source failed before the bytes that it gave decided anything
 abbrev pub WasCutOff : Option (List ℕ) → Option (List ℕ) → Type 0
-WasCutOff source left = Gave next_line ended Blank (AreUndecided lines_so_far) source left
+WasCutOff source left = counting.WasCutOff next_line ended Blank lines_so_far source left

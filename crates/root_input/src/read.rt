@@ -2,7 +2,7 @@ ghost use Rattle.std.specs.Prelude.{◌≡◌, ◌≢◌, ◌+◌, ◌<◌, ◌�
 ghost use Rattle.std.specs.Io.KnownBytes.{prepend_known, IsAtEnd};
 ghost use Rattle.ens_base.specs.Causes.{Rose};
 ghost use Rattle.ens_outside.specs.Lines.{BeginsLong};
-ghost use Rattle.root_input.specs.Counting.{HasCounted, IsReached};
+ghost use Rattle.line_reading.specs.Counting.{HasCounted, IsReached};
 ghost use Rattle.line_reading.specs.Reading.{ReadsAs, ReadsOn};
 ghost use Rattle.root_script.specs.Progress.{Blank, lines_so_far};
 ghost use Rattle.root_script.specs.Reading.{ended, next_line, script_of};

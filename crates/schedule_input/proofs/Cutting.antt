@@ -5,19 +5,15 @@ use Rattle.std.proofs.lemmas.Bool.{cases_order}
 use Rattle.ens_outside.specs.Lines.{HasNoFeed, IsLine}
 use Rattle.ens_outside.specs.declared.lines.NextError.{NextError}
 use Rattle.ens_outside.specs.declared.lines.NextError.TheVariants as next
+use Rattle.line_reading.specs.Counting.{most_taken}
 use Rattle.schedule_words.specs.Words.{parts_of}
 use Rattle.schedule_text.specs.Progress.{Progress, Blank, lines_so_far}
 use Rattle.schedule_text.specs.Reading.{and_then, next_line, read_parts}
 use Rattle.schedule_text.specs.declared.error.ScheduleError.{ScheduleError}
 use Rattle.schedule_input.specs.declared.read.ReadError.{ReadError}
 use Rattle.schedule_input.specs.declared.read.ReadError.TheVariants as read
-use Rattle.schedule_input.specs.Reading.{HasTaken, WasCutOff, WasTakenTo, most_taken, of_next}
+use Rattle.schedule_input.specs.Reading.{HasTaken, WasCutOff, WasTakenTo, of_next}
 use Rattle.schedule_input.proofs.Parts.{line_counts, read_line}
-
--- no line yet
-pub taken_first : (source : Option (List ℕ)) → HasTaken source [] source Blank
-taken_first None = tt
-taken_first (Some bytes) = record { lines = []; are = refl; good = λ rest. refl; short = omega arith; few = omega arith }
 
 -- the bytes that a call consumed, and those that are pending after it
 consumed : (was old bytes pending left : List ℕ) → was ++ old ≡ bytes ++ (pending ++ left) → length was ≤ 4401 → (Some left ≡ Some old) ⊎ (length bytes + length pending ≤ 4401) → length bytes + length pending ≤ 4401
@@ -25,12 +21,6 @@ consumed was old bytes pending left took short (inr few) = few
 consumed was old bytes pending left took short (inl same) =
     let none : left ≡ old = cc in
     omega (arith, simp length-append at (ap (λ (l : List ℕ). length l) took), ap (λ (l : List ℕ). length l) none)
-
--- a call that kept the bytes consumed none
-pub kept_takes : (old new : Option (List ℕ)) → Keeps old new → Consumes old new []
-kept_takes None new kept = tt
-kept_takes (Some x) None kept = absurd kept
-kept_takes (Some x) (Some y) kept = sym kept
 
 -- one more line
 pub taken_next : (source old new : Option (List ℕ)) (was pending : List ℕ) (p q : Progress) (v : List ℕ) → HasNoFeed v → next_line p v ≡ Ok q → Consumes (prepend_known was old) (prepend_known pending new) (v ++ 10 ∷ [])

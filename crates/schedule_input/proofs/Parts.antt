@@ -91,11 +91,6 @@ rest_read (Some x) (Some y) p v clear took end =
     let is : x ≡ v = took ∙ ap (λ (l : List ℕ). v ++ l) end ∙ append-nil v in
     ap (λ (l : List ℕ). read_parts p (parts_of 10 l)) is ∙ ap (λ (l : List (List ℕ)). read_parts p l) (slice_split_none (λ b. b == 10) v (no_feeds v clear))
 
-pub refuses_rest : (a : Option (List ℕ)) (p : Progress) (v : List ℕ) (e : ScheduleError) → ended p v ≡ Err e → ReadsAs a p (ended p v) → Refuses a p (of_schedule e)
-refuses_rest a p v (Bad line cause) is read = let P : Result Schedule ScheduleError → Type 0 = λ r. ReadsAs a p r in subst P is read
-refuses_rest a p v Lines is read = let P : Result Schedule ScheduleError → Type 0 = λ r. ReadsAs a p r in subst P is read
-refuses_rest a p v Memory is read = tt
-
 -- one step of reading after another
 pub reads_on : (a b c : Option (List ℕ)) (p q r : Progress) → ReadsOn a p b q → ReadsOn b q c r → ReadsOn a p c r
 reads_on None b c p q r first second = tt

@@ -11,10 +11,6 @@ use Rattle.schedule_text.specs.declared.schedule.Schedule.{Schedule}
 use Rattle.schedule_input.specs.Reading.{IsReached}
 use Rattle.schedule_input.proofs.Parts.{ended_ok, read_line}
 
--- no line yet
-pub reached_first : IsReached Blank
-reached_first = record { front = []; reads = λ rest. refl }
-
 -- one more line
 pub reached_next : (p q : Progress) (v : List ℕ) → HasNoFeed v → next_line p v ≡ Ok q → IsReached p → IsReached q
 reached_next p q v clear ok old = record {

@@ -7,6 +7,7 @@ use Rattle.schedule_text.specs.declared.error.ScheduleError.{ScheduleError}
 use Rattle.schedule_text.specs.declared.error.ScheduleError.TheVariants as schedule
 use Rattle.schedule_text.specs.declared.schedule.Schedule.{Schedule}
 use Rattle.ens_outside.specs.Lines.{IsLine}
+use Rattle.line_reading.specs.Counting.{most_taken}
 use Rattle.ens_outside.specs.declared.lines.NextError.{NextError}
 use Rattle.ens_outside.specs.declared.lines.NextError.TheVariants as next
 use Rattle.schedule_input.specs.declared.read.ReadError.{ReadError}
@@ -54,10 +55,6 @@ abbrev pub HasTaken : Option (List ℕ) → List ℕ → Option (List ℕ) → P
 HasTaken None pending left p = Unit {0}
 HasTaken (Some bytes) pending None p = ⊥
 HasTaken (Some bytes) pending (Some left) p = IsReading bytes pending left p
-
--- the bytes of 200,000 lines of 4,400 bytes, each with its line feed, and one byte more
-abbrev pub most_taken : ℕ
-most_taken = 200000 * 4401 + 1
 
 -- Of a source that held the first bytes the second ones are left. It gave at most 200,000 lines, none of
 -- which is bad, and after them at most 4,401 bytes more, so many as the longest line has with its line

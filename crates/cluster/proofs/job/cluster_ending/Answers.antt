@@ -27,7 +27,7 @@ returns-in-Ok-clause-memory g c =
 
 pub returns-in-Ok-clause-read : goal.returns-in-Ok-clause-read
 returns-in-Ok-clause-read g c =
-    IfOk-weaker c.run_ending.result _ _ (λ p ends. read_whole g.L.Link.sent g.L.Link.given g.L.Link.fault_count c.args.words.now _ c.args.link.now c.in-Ok.script _ _ _ _ _ _ p.status _ c.in-Ok.ensures.end ends) c.run_ending.ensures.ends
+    IfOk-weaker c.run_ending.result _ _ (λ p ends. read_whole g.L.Link.sent g.L.Link.given g.L.Link.fault_count c.args.words.now _ c.args.link.now c.in-Ok.script _ _ _ _ _ _ p.status _ c.read_script.ensures.taken c.in-Ok.ensures.end ends) c.run_ending.ensures.ends
 
 pub returns-in-Ok-clause-status : goal.returns-in-Ok-clause-status
 returns-in-Ok-clause-status g c =
@@ -41,7 +41,7 @@ returns-in_ok-unread-in-Err-clause-ends g c =
 pub returns-in_ok-unread-in-Err-clause-read : goal.returns-in_ok-unread-in-Err-clause-read
 returns-in_ok-unread-in-Err-clause-read g c =
     ended_as c.args.words.now _ _ _ _ _ _ c.of.ensures.status
-    (unread_read c.args.words.now _ _ _ _ c.in-Err.error _ _ (c.in_ok-unread-in-Err.ensures c.args.words.now.peers _ c.in-Err.ensures.bad) (λ is. (c.in-Err.ensures.failed (cc), c.in-Err.ensures.cut (cc))))
+    (unread_read c.args.words.now _ _ _ _ c.in-Err.error _ _ c.read_script.ensures.taken (c.in_ok-unread-in-Err.ensures c.args.words.now.peers _ c.in-Err.ensures.bad) (λ is. (c.in-Err.ensures.failed (cc), c.in-Err.ensures.cut (cc))))
 
 pub returns-in_ok-unread-in-Err-clause-status : goal.returns-in_ok-unread-in-Err-clause-status
 returns-in_ok-unread-in-Err-clause-status g c = λ same. unread_status c.args.words.now.peers _ c.in-Err.error _ _ (c.in_ok-unread-in-Err.ensures c.args.words.now.peers _ c.in-Err.ensures.bad) (sym c.of.ensures.status ∙ same)

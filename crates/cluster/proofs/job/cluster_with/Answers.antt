@@ -1,6 +1,6 @@
 use Rattle.std.proofs.Common.{refl}
 use Rattle.ens_base.specs.declared.status.Status.TheVariants as Status
-use Rattle.cluster.proofs.Outcomes.{ended_as, ends_as}
+use Rattle.cluster.proofs.Outcomes.{ended_as, ends_as, memory_taken}
 use Rattle.cluster.proofs.job.cluster_with.Goals as goal
 
 pub returns-in-Ok-clause-printed : goal.returns-in-Ok-clause-printed
@@ -20,7 +20,7 @@ returns-in-Err-clause-printed g c = λ wrote.
     (_, ends_as g.L.Link.sent g.L.Link.given g.L.Link.fault_count c.args.words.now _ c.args.link.now _ _ _ _ _ _ _ done.0 refl c.in-Err.ensures.memory, done.1)
 
 pub returns-in-Err-clause-front : goal.returns-in-Err-clause-front
-returns-in-Err-clause-front g c = λ fault. (Status.Memory, _, c.in-Err.ensures.memory, tt, c.finish.ensures.front fault)
+returns-in-Err-clause-front g c = λ fault. (Status.Memory, _, c.in-Err.ensures.memory, memory_taken c.args.words.now _ _ _ _ c.cluster_ending.ensures.taken, c.finish.ensures.front fault)
 
 pub returns-in-Err-clause-input : goal.returns-in-Err-clause-input
-returns-in-Err-clause-input g c = λ wrote. ended_as c.args.words.now _ _ _ _ _ _ (c.finish.ensures.written wrote).0 tt
+returns-in-Err-clause-input g c = λ wrote. ended_as c.args.words.now _ _ _ _ _ _ (c.finish.ensures.written wrote).0 (memory_taken c.args.words.now _ _ _ _ c.cluster_ending.ensures.taken)

@@ -2,7 +2,8 @@ use Rattle.std.proofs.Common.{◌≡◌, arith, [], length}
 use Rattle.std.specs.Prelude.{OnOk, Result, Ok, Err}
 use Rattle.std.proofs.lemmas.Result.{err_from_is_err_and}
 use Rattle.schedule_text.specs.declared.error.ScheduleError.TheVariants.{Lines}
-use Rattle.line_reading.proofs.Cutting.{cut_off, nothing_pending}
+use Rattle.line_reading.proofs.Counting.{cut_short, taken_last}
+use Rattle.line_reading.proofs.Cutting.{nothing_pending}
 use Rattle.line_reading.proofs.Parts.{reads_as, too_many}
 use Rattle.cluster_script.specs.Scripts.{ended, next_line}
 use Rattle.cluster_script.proofs.Refusing.{last_line, last_rest, next_failed}
@@ -23,4 +24,13 @@ returns-in_err-is_end-clause-cut g c =
     let exit = err_from_is_err_and c.from_residual-in_err-is_end.result c.from_residual-in_err-is_end.ensures.1 in
     rw (exit.1, exit.2) (λ is.
     let none = c.in_err-is_end.ensures.undecided (next_failed c.in_err-is_end.field-0.0 is) in
-    cut_off (next_line c.args.peers) ended [] _ _ _ _ c.is_end.new.self.pending.items c.loop-turn.reading.lines.items c.loop-turn.invariant.taken c.is_end.ensures.kept (nothing_pending c.is_end.new.self.pending.items none))
+    cut_short (next_line c.args.peers) ended [] length _ _ _ _ c.is_end.new.self.pending.items c.loop-turn.reading.lines.items c.loop-turn.invariant.taken c.is_end.ensures.kept (nothing_pending c.is_end.new.self.pending.items none) (omega (arith, c.loop-turn.invariant.count)) (λ e. none))
+
+pub returns-in_err-is_end-clause-taken : goal.returns-in_err-is_end-clause-taken
+returns-in_err-is_end-clause-taken g c = taken_last (next_line c.args.peers) ended [] length _ _ _ _ c.is_end.new.self.pending.items c.loop-turn.reading.lines.items c.is_end.ensures.kept c.is_end.ensures.few (omega (arith, c.loop-turn.invariant.count)) c.loop-turn.invariant.taken
+
+pub returns-then-not-branch-clause-taken : goal.returns-then-not-branch-clause-taken
+returns-then-not-branch-clause-taken g c = taken_last (next_line c.args.peers) ended [] length _ _ _ _ c.is_end.new.self.pending.items c.loop-turn.reading.lines.items c.is_end.ensures.kept c.is_end.ensures.few (omega (arith, c.loop-turn.invariant.count)) c.loop-turn.invariant.taken
+
+pub returns-clause-taken : goal.returns-clause-taken
+returns-clause-taken g c = taken_last (next_line c.args.peers) ended [] length _ _ _ _ c.is_end.new.self.pending.items c.loop-turn.reading.lines.items c.is_end.ensures.kept c.is_end.ensures.few (omega (arith, c.loop-turn.invariant.count)) c.loop-turn.invariant.taken

@@ -53,7 +53,7 @@ returns-in-Cluster-clause-linked g c =
 pub returns-in-Audit-clause-front : goal.returns-in-Audit-clause-front
 returns-in-Audit-clause-front g c = λ fault.
     let r = c.print_report.ensures.front fault in
-    (r.0, r.1, subst (λ (job : Job). Does job (g.S.Source.left c.args.input.now) r.0 r.1) (sym c.in-Audit.is) r.2, did_read_record c.args.job _ _ _ _ _ c.in-Audit.is (record { end = r.3; fault = r.4; cut = r.5 }), r.6)
+    (r.0, r.1, subst (λ (job : Job). Does job (g.S.Source.left c.args.input.now) r.0 r.1) (sym c.in-Audit.is) r.2, did_read_record c.args.job _ _ _ _ _ c.in-Audit.is (record { taken = c.print_report.ensures.taken; end = r.3; fault = r.4; cut = r.5 }), r.6)
 
 pub returns-in-Audit-clause-untouched : goal.returns-in-Audit-clause-untouched
 returns-in-Audit-clause-untouched g c = λ none. absurd (none (rw c.in-Audit.is tt))
@@ -61,13 +61,13 @@ returns-in-Audit-clause-untouched g c = λ none. absurd (none (rw c.in-Audit.is 
 pub returns-in-Check-clause-front : goal.returns-in-Check-clause-front
 returns-in-Check-clause-front g c = λ fault.
     let r = c.print_check.ensures.front fault in
-    (r.0, r.1, subst (λ (job : Job). Does job (g.S.Source.left c.args.input.now) r.0 r.1) (sym c.in-Check.is) r.2, did_read_backup c.args.job _ _ _ _ _ c.in-Check.is (record { end = r.3; fault = r.4 }), r.5)
+    (r.0, r.1, subst (λ (job : Job). Does job (g.S.Source.left c.args.input.now) r.0 r.1) (sym c.in-Check.is) r.2, did_read_backup c.args.job _ _ _ _ _ c.in-Check.is r.3, r.4)
 
 pub returns-in-Check-clause-untouched : goal.returns-in-Check-clause-untouched
 returns-in-Check-clause-untouched g c = λ none. absurd (none (rw c.in-Check.is tt))
 
 pub returns-in-Check-clause-input : goal.returns-in-Check-clause-input
-returns-in-Check-clause-input g c = λ wrote. did_read_backup c.args.job _ _ _ _ _ c.in-Check.is (record { end = c.print_check.ensures.end; fault = c.print_check.ensures.read })
+returns-in-Check-clause-input g c = λ wrote. did_read_backup c.args.job _ _ _ _ _ c.in-Check.is (c.print_check.ensures.input wrote)
 
 -- ---- a backup
 
@@ -160,7 +160,7 @@ pub returns-in-Replay-clause-input : goal.returns-in-Replay-clause-input
 returns-in-Replay-clause-input g c = λ wrote. did_read_schedule c.args.job _ _ _ _ _ c.in-Replay.is (c.replay.ensures.input wrote)
 
 pub returns-in-Audit-clause-input : goal.returns-in-Audit-clause-input
-returns-in-Audit-clause-input g c = λ wrote. did_read_record c.args.job _ _ _ _ _ c.in-Audit.is (record { end = c.print_report.ensures.end; fault = c.print_report.ensures.read; cut = c.print_report.ensures.cut })
+returns-in-Audit-clause-input g c = λ wrote. did_read_record c.args.job _ _ _ _ _ c.in-Audit.is (record { taken = c.print_report.ensures.taken; end = c.print_report.ensures.end; fault = c.print_report.ensures.read; cut = c.print_report.ensures.cut })
 
 -- the text with which the peer ended, and what was printed of it
 counts : (g : given.Over) (c : goal.After-serve g) → (status : Status) × (text : List ℕ) × PrintsCounts c.in-Peer.words status text

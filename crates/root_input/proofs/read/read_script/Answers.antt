@@ -1,7 +1,7 @@
 use Rattle.std.proofs.Common.{◌≡◌, arith}
 use Rattle.std.specs.Prelude.{OnOk, Result, Ok, Err}
 use Rattle.std.proofs.lemmas.Result.{err_from_is_err_and, IfErr-weaker}
-use Rattle.root_input.proofs.Counting.{cut_short, taken_last}
+use Rattle.line_reading.proofs.Counting.{cut_short, taken_last}
 use Rattle.line_reading.proofs.Cutting.{nothing_pending}
 use Rattle.line_reading.proofs.Parts.{at_end, ended_left, reads_as, too_many}
 use Rattle.root_script.specs.Progress.{Blank, lines_so_far}

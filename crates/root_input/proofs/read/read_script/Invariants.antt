@@ -1,6 +1,6 @@
 use Rattle.std.proofs.Common.{◌≡◌, ◌≤◌}
 use Rattle.std.specs.Io.KnownBytes.{prepend_known}
-use Rattle.root_input.specs.Counting.{HasCounted, IsReached}
+use Rattle.line_reading.specs.Counting.{HasCounted, IsReached}
 use Rattle.line_reading.specs.Reading.{ReadsOn}
 use Rattle.root_script.specs.Progress.{Blank, lines_so_far}
 use Rattle.root_script.specs.Reading.{ended, next_line}

@@ -1,7 +1,8 @@
 use Rattle.std.proofs.Common.{◌≡◌, ℕ, List, [], ◌∷◌, ◌++◌, length-append, refl, subst, Ok, Err, arith}
 use Rattle.std.proofs.lemmas.Result.{err_from_is_err_and}
-use Rattle.root_input.proofs.Counting.{counted_next, cut_short, reached_next, taken_to}
-use Rattle.schedule_input.proofs.Cutting.{kept_takes, next_failed}
+use Rattle.line_reading.proofs.Counting.{counted_next, cut_short, reached_next, taken_to}
+use Rattle.line_reading.proofs.Cutting.{kept_takes}
+use Rattle.schedule_input.proofs.Cutting.{next_failed}
 use Rattle.line_reading.proofs.Parts.{line_taken, rest_read}
 use Rattle.root_script.specs.Progress.{Blank, lines_so_far}
 use Rattle.root_script.specs.Reading.{ended, next_line, TakesLine}

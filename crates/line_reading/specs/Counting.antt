@@ -2,7 +2,10 @@
 use Rattle.std.specs.Prelude.{◌≡◌, ◌≤◌, ◌+◌, ◌*◌, ◌++◌, ℕ, List, [], length, Option, None, Some, Result}
 use Rattle.ens_outside.specs.Lines.{IsLine}
 use Rattle.line_reading.specs.Reading.{ComeTo, HasTaken}
-use Rattle.schedule_input.specs.Reading.{most_taken}
+
+-- the bytes of 200,000 lines of 4,400 bytes, each with its line feed, and one byte more
+abbrev pub most_taken : ℕ
+most_taken = 200000 * 4401 + 1
 
 -- A reader: what the next line makes of what was read so far, and what the end of the text makes of it.
 module _ {S R E : Type 0} (next : S → List ℕ → Result S E) (end : S → List ℕ → Result R E) where
@@ -54,3 +57,12 @@ module _ {S R E : Type 0} (next : S → List ℕ → Result S E) (end : S → Li
   -- a source gave the lines so far and the pending bytes after them, and only few bytes
   abbrev pub HasCounted : Option (List ℕ) → List ℕ → Option (List ℕ) → S → Type 0
   HasCounted source pending left s = HasTaken next end first source pending left s × AreFew count source pending left s
+
+  -- Of a source that held the first bytes the second ones are left. It gave at most 200,000 lines, none of which
+  -- is bad, and after them no more bytes than the longest line has; on the whole no more than `most_taken`.
+  abbrev pub WasTakenTo : Option (List ℕ) → Option (List ℕ) → Type 0
+  WasTakenTo source left = Gave next end first (AreTaken count) source left
+
+  -- the source failed before the bytes that it gave decided anything
+  abbrev pub WasCutOff : Option (List ℕ) → Option (List ℕ) → Type 0
+  WasCutOff source left = Gave next end first (AreUndecided count) source left

@@ -3,18 +3,9 @@ use Rattle.std.proofs.Common.{◌≡◌, ◌≤◌, ◌<◌, ◌+◌, ◌*◌, �
 use Rattle.std.specs.Io.KnownBytes.{Consumes, Keeps, prepend_known}
 use Rattle.std.proofs.lemmas.Bool.{cases_order}
 use Rattle.ens_outside.specs.Lines.{HasNoFeed, IsLine}
-use Rattle.line_reading.specs.Reading.{ComeTo, HasTaken, and_then, read_text}
-use Rattle.line_reading.proofs.Cutting.{taken_next}
-use Rattle.line_reading.proofs.Parts.{read_line}
-use Rattle.schedule_input.specs.Reading.{most_taken}
-use Rattle.schedule_input.proofs.Cutting.{kept_takes}
-use Rattle.root_input.specs.Counting.{AreFew, AreTaken, AreUndecided, Gave, HasCounted, IsReached}
-
--- the bytes that a call consumed, and the pending ones after them
-with_pending : (old left : Option (List ℕ)) (bytes pending : List ℕ) → Consumes old (prepend_known pending left) bytes → Consumes old left (bytes ++ pending)
-with_pending None left bytes pending took = tt
-with_pending (Some x) None bytes pending took = absurd took
-with_pending (Some x) (Some y) bytes pending took = took ∙ sym (append_assoc bytes pending y)
+use Rattle.line_reading.specs.Reading.{HasTaken}
+use Rattle.line_reading.proofs.Cutting.{come_next, kept_takes, taken_next, with_pending}
+use Rattle.line_reading.specs.Counting.{AreFew, AreTaken, AreUndecided, Gave, HasCounted, IsReached, WasCutOff, WasTakenTo, most_taken}
 
 -- a call that kept the bytes
 kept_pending : (old left : Option (List ℕ)) (pending : List ℕ) → Keeps old (prepend_known pending left) → Consumes old left pending
@@ -33,13 +24,8 @@ with_size A bytes pending size is (inr few) = inr (omega (arith, length-append b
 
 module _ {S R E : Type 0} (next : S → List ℕ → Result S E) (end : S → List ℕ → Result R E) (first : S) where
   -- one more line
-  come_next : (lines v : List ℕ) (s t : S) → HasNoFeed v → next s v ≡ Ok t → ComeTo next end first lines s → ComeTo next end first (lines ++ (v ++ 10 ∷ [])) t
-  come_next lines v s t clear ok come rest =
-      let line = v ++ 10 ∷ [] in
-      ap (λ (l : List ℕ). read_text next end first l) (append_assoc lines line rest) ∙ come (line ++ rest) ∙ read_line next end s (line ++ rest) v rest clear refl ∙ ap (λ (r : Result S E). and_then next end r (λ u. read_text next end u rest)) ok
-
   pub reached_next : (s t : S) (v : List ℕ) → HasNoFeed v → next s v ≡ Ok t → IsReached next end first s → IsReached next end first t
-  reached_next s t v clear ok old = (old.0 ++ (v ++ 10 ∷ []), come_next old.0 v s t clear ok old.1)
+  reached_next s t v clear ok old = (old.0 ++ (v ++ 10 ∷ []), come_next next end first old.0 v s t clear ok old.1)
 
   -- what a source gave, where a call took these bytes beyond the lines and none of them is pending
   gave : (AreFit : List ℕ → List ℕ → S → Type 0) (source old left : Option (List ℕ)) (was more : List ℕ) (s : S) → Consumes (prepend_known was old) left more
@@ -86,9 +72,14 @@ module _ {S R E : Type 0} (next : S → List ℕ → Result S E) (end : S → Li
       let sizes : (length was ≤ 4401) × (length bytes ≤ 4401 * count s + length x) = subst (λ (o : Option (List ℕ)). AreFew count (Some bytes) was o s) b known in
       fit lines x y b c split sizes.0 (omega (arith, sizes.1, simp length-append at (ap (λ (l : List ℕ). length l) are)))) h.0
 
+  -- a source that was not read
+  pub taken_none : (source : Option (List ℕ)) → count first ≤ 200000 → WasTakenTo next end first count source source
+  taken_none None few = tt
+  taken_none (Some bytes) few = record { lines = []; more = []; s = first; are = refl; good = λ rest. refl; fit = record { few = few; short = omega arith; bound = omega arith } }
+
   -- however a call ended that was to read the next line
   pub taken_to : (source old left : Option (List ℕ)) (was bytes pending : List ℕ) (s : S) (size : ℕ) → length bytes ≡ size → Consumes (prepend_known was old) (prepend_known pending left) bytes
-      → (left ≡ old) ⊎ (size + length pending ≤ 4401) → count s < 200000 → HasCounted next end first count source was old s → Gave next end first (AreTaken count) source left
+      → (left ≡ old) ⊎ (size + length pending ≤ 4401) → count s < 200000 → HasCounted next end first count source was old s → WasTakenTo next end first count source left
   taken_to source old left was bytes pending s size is took few less h =
       gave_few (AreTaken count) source old left was (bytes ++ pending) s (with_pending (prepend_known was old) left bytes pending took) h (λ lines x y a b split short given.
       by lines short given (few_more old left was (bytes ++ pending) x y 4401 a b split (with_size (left ≡ old) bytes pending size is few)))
@@ -99,7 +90,7 @@ module _ {S R E : Type 0} (next : S → List ℕ → Result S E) (end : S → Li
 
   -- the same of the call that looks for the end after the last line
   pub taken_last : (source old left : Option (List ℕ)) (was pending : List ℕ) (s : S) → Keeps (prepend_known was old) (prepend_known pending left) → (left ≡ old) ⊎ ((was ≡ []) × (length pending ≤ 1)) → count s ≤ 200000
-      → HasCounted next end first count source was old s → Gave next end first (AreTaken count) source left
+      → HasCounted next end first count source was old s → WasTakenTo next end first count source left
   taken_last source old left was pending s kept few less h =
       gave_few (AreTaken count) source old left was pending s (kept_pending (prepend_known was old) left pending kept) h (λ lines x y a b split short given. by lines short given (few_more old left was pending x y 1 a b split (few_after few)))
     where
@@ -113,7 +104,7 @@ module _ {S R E : Type 0} (next : S → List ℕ → Result S E) (end : S → Li
 
   -- the source failed where these bytes are pending
   pub cut_short : (source old left : Option (List ℕ)) (was pending : List ℕ) (s : S) → HasCounted next end first count source was old s → Keeps (prepend_known was old) (prepend_known pending left) → IsLine pending → count s ≤ 200000 → (count s ≡ 200000 → pending ≡ [])
-      → Gave next end first (AreUndecided count) source left
+      → WasCutOff next end first count source left
   cut_short source old left was pending s h kept line less last =
       gave_few (AreUndecided count) source old left was pending s (kept_pending (prepend_known was old) left pending kept) h (λ lines x y a b split short given. record {
         taken = record { few = less; short = omega (arith, line.short); bound = by lines given (cases_order (count s) 200000) };
