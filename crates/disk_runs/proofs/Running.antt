@@ -20,7 +20,7 @@ use Rattle.disk_runs.specs.Memory.{StandsFor, StandsOpen, RunsInMemory, RunAsMap
 use Rattle.disk_runs.proofs.Calls.{does, Opens, opens_so, loads_answer, call_so}
 
 -- a run that finished was not stopped
-not_stopped : (x : State) (out : Out) (error : PeerError) → (let e : Ending State = Finished x out in e) ≡ Stopped error → ⊥
+pub not_stopped : (x : State) (out : Out) (error : PeerError) → (let e : Ending State = Finished x out in e) ≡ Stopped error → ⊥
 not_stopped x out error is = cc
 
 module _ {D : Type 0} (seen : D → Option (List ℕ)) (faults : D → ℕ) where

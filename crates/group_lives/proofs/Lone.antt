@@ -8,6 +8,7 @@ use Rattle.peer_lives.proofs.Lone.{lone_view, older_breaks, one_string}
 use Rattle.peer_lives.specs.Witness.{StartsOnOlder, lone_opening, nothing_found, remains_found}
 use Rattle.peer_plan.specs.Drives.{driven, most_turns, step_of}
 use Rattle.peer_plan.specs.Starts.{start_of}
+use Rattle.disk_runs.proofs.Running.{not_stopped}
 use Rattle.peer_serve.specs.Starting.{served_mode}
 use Rattle.peer_state.specs.declared.event.Event.{Event}
 use Rattle.peer_state.specs.declared.event.Event.TheVariants.{Tick}
@@ -35,9 +36,6 @@ use Rattle.group_lives.specs.Witness.{AreInMemory, IsInvented, a_lost_fact, an_u
 -- how a run of a plan ends
 abbrev ended : State → Out → Held → List Note → Ended State
 ended x out held notes = record { ending = Finished x out; held = held; notes = notes }
-
-not_stopped : (x : State) (out : Out) (error : PeerError) → (let e : Ending State = Finished x out in e) ≡ Stopped error → ⊥
-not_stopped x out error is = cc
 
 -- the run of a plan is one that the stores may make
 runs_so : (plan : Plan State) (s t : Held) (ns ms : List Note) (x : State) (out : Out) → run plan s ns ≡ ended x out t ms → Runs memory_does memory_refuses plan s ns (Finished x out) t ms

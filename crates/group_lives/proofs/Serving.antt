@@ -2,6 +2,7 @@
 use Rattle.std.proofs.Common.{◌≡◌, ◌⊎◌, ◌++◌, ℕ, Bool, List, [], append-nil, Option, None, Some, Result, Ok, refl, sym, ◌∙◌, subst, inl, inr}
 use Rattle.std.proofs.lemmas.List.{map-append}
 use Rattle.disk_log.specs.Records.{entries_of}
+use Rattle.disk_runs.proofs.Running.{not_stopped}
 use Rattle.disk_runs.specs.Memory.{StandsFor}
 use Rattle.disk_stores.specs.DiskCalls.{HoldsNodes, HoldsObjects}
 use Rattle.disk_stores.specs.NodeMaps.{nodes_of}
@@ -28,7 +29,7 @@ use Rattle.served_lives.specs.Served.{HasLived, IsTickOrFrame}
 use Rattle.slot_disk.specs.Crash.{LeavesOnly, Told}
 use Rattle.slot_disk.specs.SlotFiles.{IsAtRest}
 use Rattle.step_plans.specs.Calls.{Call, AnswerOf}
-use Rattle.step_plans.specs.Plans.{Ending, Finished, Out, Runs, Stopped, nothing}
+use Rattle.step_plans.specs.Plans.{Finished, Runs, nothing}
 use Rattle.step_plans.specs.declared.error.PeerError.{PeerError}
 use Rattle.turn_spec.specs.Deeds.{Deed, Did, events_in}
 use Rattle.world_stores.specs.Facts.{kept_of}
@@ -51,10 +52,6 @@ known_of seen P Q (Some d) file is follows holds = follows d (subst (λ (bytes :
 of_some : {D : Type 0} (Q : Type 0) (o : Option D) → Of o (λ d. Q) → Q
 of_some Q None holds = absurd holds
 of_some Q (Some d) holds = holds
-
--- a run that came to its end was not stopped
-not_stopped : (x : State) (out : Out) (error : PeerError) → (let e : Ending State = Finished x out in e) ≡ Stopped error → ⊥
-not_stopped x out error is = cc
 
 -- the digest that a top record holds
 top_found : (top : Option (List ℕ)) → top_of (tops_found top) ≡ top

@@ -20,17 +20,15 @@ use Rattle.step_plans.specs.declared.error.PeerError.{PeerError}
 use Rattle.step_plans.specs.declared.outbox.Outbox.{Outbox}
 use Rattle.leader_words.specs.declared.out.Outgoing.{Outgoing}
 use Rattle.step_plans.specs.declared.tasks.Task.{Task}
-use Rattle.step_plans.specs.declared.tasks.Task.TheVariants.{Phase as OnPhase}
 use Rattle.step_plans.proofs.Alone.{posted_alone}
 use Rattle.wire_frames.specs.declared.message.Message.{Message}
 use Rattle.wire_frames.specs.declared.message.Message.TheVariants as messages
 use Rattle.phase_rows.specs.declared.phase.PhaseOut.{PhaseOut}
 use Rattle.phase_rows.specs.declared.phase.Then.TheVariants as thens
-use Rattle.phase_rows.specs.declared.rules.PhaseRule.TheVariants as phase_rules
 use Rattle.peer_plan.specs.Drives.{row_done, delivered, responded, driven, concluded, most_turns, step_of, MayCome}
 use Rattle.peer_plan.specs.Syncs.{and_sends}
 use Rattle.peer_plan.specs.Kept.{IsStepCall}
-use Rattle.peer_state.specs.NoAllocation.{ends_step, IsAllocationFreeMessage, IsAllocationFree, is_over, is_over_in, IsSteady, IsFreeRow, IsFreeTask}
+use Rattle.peer_state.specs.NoAllocation.{ends_step, IsAllocationFreeMessage, IsAllocationFree, is_over, is_over_in, IsSteady, IsFreeRow}
 use Rattle.peer_state.specs.Moves.{waits}
 use Rattle.peer_state.specs.Rows.{received, ended, while_26}
 use Rattle.peer_state.specs.declared.event.Event.{Event}
@@ -49,7 +47,7 @@ ended_silent Settled fact me unanswered steady = refl
 ended_silent (Wanted change) fact me unanswered steady = refl
 ended_silent (Finishes f) fact me unanswered steady = rw steady refl
 
-while_26_silent : (phase : Phase) (me : ℕ) (x : State) → is_over_in phase x.fact ≡ false → while_26 phase me x ≡ (x, silent thens.Stay)
+pub while_26_silent : (phase : Phase) (me : ℕ) (x : State) → is_over_in phase x.fact ≡ false → while_26 phase me x ≡ (x, silent thens.Stay)
 while_26_silent (phases.Leading l) me x steady = rw (ended_silent l.change x.fact me (has_calls l.leader.table.calls) steady) refl
 while_26_silent other me x steady = refl
 
@@ -105,14 +103,10 @@ received_ends me from (messages.Beat ballot) x is = row_19_ends x.fact x.trusted
 received_ends me from (messages.Check ballot round) x is = either EndsStep (is_below ballot x.fact.ballot) _ _ refl (either EndsStep (is_same ballot x.fact.ballot) _ _ refl refl)
 received_ends me from other x is = absurd is
 
--- no leader is to end its epoch, so rule 26 does nothing
-pub last_free : (o : Outbox) (me : ℕ) (x : State) → IsSteady x → IsFreeTask o me (OnPhase phase_rules.EndEpoch) x
-last_free o me x steady = subst (λ r. IsFreeRow o r.0.phase r.1) (sym (while_26_silent x.phase me x steady)) (stay_free o x.phase)
-
-one_more : (from : ℕ) (message : Message) (sends : List Outgoing) → IsPeer from → length (sends ++ posted (holds (alone from)) (λ p. message) 31) ≤ length sends + 1
+pub one_more : (from : ℕ) (message : Message) (sends : List Outgoing) → IsPeer from → length (sends ++ posted (holds (alone from)) (λ p. message) 31) ≤ length sends + 1
 one_more from message sends peer = rw (posted_alone from message peer) (omega (arith, length-append sends (record { to = from; message = message } ∷ [])))
 
-none_more : (sends : List Outgoing) → length (sends ++ []) ≤ length sends
+pub none_more : (sends : List Outgoing) → length (sends ++ []) ≤ length sends
 none_more sends = rw (append-nil sends) (omega arith)
 
 -- what such a message leads to: at most one message more, and no leader that is to end its epoch

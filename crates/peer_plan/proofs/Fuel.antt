@@ -511,9 +511,6 @@ LowersFrom k row = (l : Leader) → turns_after (row l).1 + weight (row l).0 < k
 less_then : (a b c d : ℕ) → a ≤ b → b < c → c ≤ d → a < d
 less_then a b c d first less last = omega (arith, first, less, last)
 
-none_led : (k u v : ℕ) → 0 < k → u < k + u
-none_led k u v some = omega (arith, some)
-
 led_lowers : (me k : ℕ) (row : Leader → Leader × LeadOut) → 0 < k → LowersFrom k row → (phase : Phase) (x : State) (out : Out) (next : Rest State (List Task)) → owed phase ≤ owed x.phase
     → ((ts : List Task) (y : State) (o : Out) → turns ts + owed y.phase < k + owed x.phase → StepsAlone (next ts y o)) → StepsAlone (lead row me phase x out next)
 led_lowers me k row some lowers (phases.Leading l) x out next less go =

@@ -14,7 +14,7 @@ use Rattle.ens_base.specs.declared.epoch.Epoch.{Epoch}
 use Rattle.ens_base.proofs.Tests.{itself}
 use Rattle.peer_fact.specs.declared.fact.Fact.{Fact}
 use Rattle.peer_state.specs.Probe.{row_8, Probing}
-use Rattle.peer_state.specs.Election.{row_11, row_15, row_3, row_10, promised_by, row_12, first_fact, starts, elected, row_13, row_4, row_14, row_17, Election, Preparing, Starting}
+use Rattle.peer_state.specs.Election.{row_11, row_15, row_10, promised_by, row_12, first_fact, starts, elected, row_13, row_4, row_14, row_17, Election, Preparing, Starting}
 use Rattle.peer_fact.specs.Facts.{views_after}
 use Rattle.wire_frames.specs.Messages.{Obeys}
 use Rattle.wire_frames.specs.declared.message.Message.{Message}
@@ -110,10 +110,6 @@ row_13_obeys (Starting new accepts age) fact me trusted = tt
 pub row_14_obeys : (e : Election) (me : ℕ) → RowObeys (row_14 e me).1
 row_14_obeys (Preparing base promises asked age) me = tt
 row_14_obeys (Starting new accepts age) me = tt
-
-pub row_3_obeys : (e : Election) → RowObeys (row_3 e).1
-row_3_obeys (Preparing base promises asked age) = tt
-row_3_obeys (Starting new accepts age) = tt
 
 pub row_4_obeys : (e : Election) (me : ℕ) (runs : Bool) → RowObeys (row_4 e me runs).1
 row_4_obeys (Preparing base promises asked age) me runs = tt

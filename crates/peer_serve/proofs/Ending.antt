@@ -64,7 +64,7 @@ of_both : {D : Type 0} (o : Option D) (P Q R : D → Type 0) → ((d : D) → P 
 of_both None P Q R both first second = absurd first
 of_both (Some d) P Q R both first second = both d first second
 
-told_less : (o : Option (List ℕ)) (P Q : List ℕ → Type 0) → ((file : List ℕ) → P file → Q file) → Told o P → Told o Q
+pub told_less : (o : Option (List ℕ)) (P Q : List ℕ → Type 0) → ((file : List ℕ) → P file → Q file) → Told o P → Told o Q
 told_less None P Q less told = tt
 told_less (Some file) P Q less told = less file told
 

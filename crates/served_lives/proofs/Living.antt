@@ -9,6 +9,7 @@ use Rattle.ens_base.specs.declared.status.Status.TheVariants as statuses
 use Rattle.fact_store.specs.Keeping.{file_fact}
 use Rattle.peer_fact.specs.declared.error.FactError.{FactError}
 use Rattle.peer_fact.specs.declared.saved.SavedFact.{SavedFact}
+use Rattle.peer_serve.proofs.Ending.{told_less}
 use Rattle.peer_serve.proofs.Lining.{grown_nil}
 use Rattle.peer_serve.specs.Commits.{LeavesFacts, SentFront}
 use Rattle.peer_serve.specs.DiskPeers.{Of, OnDisks, disks_do, disks_refuse}
@@ -126,10 +127,6 @@ all_posted : (o p : Option (List (ℕ × List ℕ))) (frames : List (ℕ × List
 all_posted o p frames grew = subst (λ (q : Option (List (ℕ × List ℕ))). Grew q (grown p []) frames) (sym (grown_nil o)) (subst (λ (q : Option (List (ℕ × List ℕ))). Grew o q frames) (sym (grown_nil p)) grew)
 
 -- ## Facts
-
-told_less : (o : Option (List ℕ)) (P Q : List ℕ → Type 0) → ((file : List ℕ) → P file → Q file) → Told o P → Told o Q
-told_less None P Q less told = tt
-told_less (Some file) P Q less told = less file told
 
 module _ {D : Type 0} (seen : D → Option (List ℕ)) (may_leave : D → List ℕ → Type 0) (moment : D → ℕ) (left_since : D → ℕ → List ℕ → Type 0) (faults : D → ℕ) where
   -- a crash leaves no more than that

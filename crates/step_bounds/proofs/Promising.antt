@@ -1,32 +1,25 @@
 -- A step on a Prepare, a Check or a Beat: it saves the fact at most.
 use Rattle.std.proofs.Common.{◌≡◌, ◌≤◌, ◌+◌, ◌<◌, ◌&&◌, ℕ, Bool, true, false, List, [], ◌∷◌, ◌++◌, length, inl, inr, refl, sym, ap, ◌∙◌, subst, arith}
 use Rattle.std.specs.Prelude.{if◌then◌else◌}
-use Rattle.std.proofs.lemmas.List.{append-nil, length-append}
 use Rattle.ens_base.specs.Lists.{◌∈◌}
-use Rattle.ens_base.specs.PeerSet.{holds}
 use Rattle.ens_base.specs.View.{IsPeer}
 use Rattle.ens_base.specs.declared.epoch.Epoch.{Epoch}
-use Rattle.leader_words.specs.declared.out.Outgoing.{Outgoing}
 use Rattle.leading.proofs.Cases.{either}
 use Rattle.peer_fact.specs.declared.fact.Fact.{Fact}
 use Rattle.peer_fact.specs.declared.saved.SavedFact.{SavedFact}
 use Rattle.peer_plan.specs.Drives.{MayCome, concluded, delivered, driven, most_turns, responded, row_done, step_of}
 use Rattle.peer_plan.specs.Syncs.{and_sends}
 use Rattle.peer_plan.proofs.Aging.{steps_young}
+use Rattle.peer_plan.proofs.FreeRows.{none_more, one_more, while_26_silent}
 use Rattle.peer_plan.proofs.Parts.{driven_none}
 use Rattle.peer_plan.proofs.Steady.{steps_steady}
 use Rattle.peer_state.specs.Ages.{IsYoung}
 use Rattle.peer_state.specs.Election.{promises_to, row_11}
 use Rattle.peer_state.specs.Following.{row_19, row_20}
-use Rattle.peer_state.specs.NoAllocation.{IsAllocationFree, IsAllocationFreeMessage, IsSteady, is_over, is_over_in}
-use Rattle.peer_state.specs.Rows.{ended, while_26}
+use Rattle.peer_state.specs.NoAllocation.{IsAllocationFree, IsAllocationFreeMessage, IsSteady}
 use Rattle.peer_state.specs.declared.event.Event.{Event}
 use Rattle.peer_state.specs.declared.event.Event.TheVariants as events
-use Rattle.peer_state.specs.declared.state.ChangeState.{ChangeState}
-use Rattle.peer_state.specs.declared.state.ChangeState.TheVariants.{Settled, Wanted, Finishing}
 use Rattle.peer_state.specs.declared.state.Mode.{Mode}
-use Rattle.peer_state.specs.declared.state.Phase.{Phase}
-use Rattle.peer_state.specs.declared.state.Phase.TheVariants as phases
 use Rattle.peer_state.specs.declared.state.State.{State}
 use Rattle.phase_rows.specs.Orders.{is_below, is_same}
 use Rattle.phase_rows.specs.Peers.{alone}
@@ -42,11 +35,9 @@ use Rattle.step_bounds.specs.Reached.{Reached}
 use Rattle.step_bounds.proofs.Bounds.{held_at_end}
 use Rattle.step_plans.specs.Calls.{AnswerOf, Call, Save}
 use Rattle.step_plans.specs.Plans.{Ask, Done, Ending, Finished, Follows, Out, Plan, Rest, Runs, Say, Stopped, asked, nothing}
-use Rattle.step_plans.specs.Sends.{posted}
 use Rattle.step_plans.specs.declared.error.PeerError.{PeerError}
 use Rattle.step_plans.specs.declared.error.PeerError.TheVariants.{Memory, StoreFault}
 use Rattle.step_plans.specs.declared.tasks.Task.{Task}
-use Rattle.step_plans.proofs.Alone.{posted_alone}
 use Rattle.wire_frames.specs.declared.message.Message.{Message}
 use Rattle.wire_frames.specs.declared.message.Message.TheVariants as messages
 
@@ -63,21 +54,6 @@ reached_steady me mode saved trusted (event ∷ events) x peer come (y, before, 
     (held_at_end (λ z. IsSteady z) (step_of me event y) x (steps_steady me event y peer (come event (inl refl)) young) end, held_at_end (λ z. IsYoung z.phase) (step_of me event y) x (steps_young me event y peer (come event (inl refl)) young) end)
 
 -- ## The row of such a message
-
-one_more : (from : ℕ) (message : Message) (sends : List Outgoing) → IsPeer from → length (sends ++ posted (holds (alone from)) (λ p. message) 31) ≤ length sends + 1
-one_more from message sends peer = rw (posted_alone from message peer) (omega (arith, length-append sends (record { to = from; message = message } ∷ [])))
-
-none_more : (sends : List Outgoing) → length (sends ++ []) ≤ length sends
-none_more sends = rw (append-nil sends) (omega arith)
-
-ended_silent : (change : ChangeState) (fact : Fact) (me : ℕ) (unanswered : Bool) → is_over change fact unanswered ≡ false → ended change fact me unanswered ≡ silent thens.Stay
-ended_silent Settled fact me unanswered steady = refl
-ended_silent (Wanted change) fact me unanswered steady = refl
-ended_silent (Finishing f) fact me unanswered steady = rw steady refl
-
-while_26_silent : (phase : Phase) (me : ℕ) (x : State) → is_over_in phase x.fact ≡ false → while_26 phase me x ≡ (x, silent thens.Stay)
-while_26_silent (phases.Leading l) me x steady = rw (ended_silent l.change x.fact me _ steady) refl
-while_26_silent other me x steady = refl
 
 module _ (P : State → Out → Type 0) (me : ℕ) (x : State) (steady : IsSteady x) where
   abbrev IsLight : PhaseOut → Type 0
