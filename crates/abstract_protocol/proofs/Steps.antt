@@ -10,10 +10,6 @@ pub may_both : (s : State) (es fs : List Step) → MayAll s es → MayAll (after
 may_both s [] fs a b = b
 may_both s (e ∷ es) fs a b = (a.0, may_both (happens s e) es fs a.1 b)
 
-pub may_first : (s : State) (es fs : List Step) → MayAll s (es ++ fs) → MayAll s es
-may_first s [] fs a = tt
-may_first s (e ∷ es) fs a = (a.0, may_first (happens s e) es fs a.1)
-
 pub onto_state : (view : List ℕ) (steps run : List Step) → state_after view (onto steps run) ≡ after (state_after view run) steps
 onto_state view [] run = refl
 onto_state view (e ∷ es) run = onto_state view es (e ∷ run)

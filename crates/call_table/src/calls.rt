@@ -1,4 +1,4 @@
-ghost use Rattle.std.specs.Prelude.{◌≡◌, ◌+◌, ◌++◌, ◌∷◌, [], IfOk, OnOk, option_map, map, slice_get, Some};
+ghost use Rattle.std.specs.Prelude.{◌≡◌, ◌+◌, ◌++◌, ◌∷◌, [], IfOk, OnOk, option_map, map, Some};
 ghost use Rattle.call_table.specs.Calls.{has_calls, waiting_on, running, without_running, older, due, not_due};
 ghost use Rattle.call_table.specs.Slots.{present, unless_due, is_first, key_if, due_at, late_at, AreOf};
 ghost use Rattle.call_table.specs.Late.{late_put_after};

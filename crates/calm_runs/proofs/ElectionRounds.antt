@@ -146,10 +146,6 @@ module _ (me : ℕ) (view : List ℕ) (is_peer : IsPeer me) (peers : (q : ℕ) �
     starts_on fact k (inl (has, inr w)) = inl (has, reply_waits k (messages.Accepted (ballot me view) 1) w)
     starts_on fact k (inr w) = inr (ask_waits k (messages.NewEpoch (accepted me view)) w)
 
-    led_on : (fact : Fact) (k : ℕ) → IsHeard me view (Led set) m fact k → IsHeard me view (Led (joined q set)) (settled m n) fact k
-    led_on fact k (inl has) = inl has
-    led_on fact k (inr w) = inr (ask_waits k (messages.NewEpoch (accepted me view)) w)
-
     module _ (w : Run) where
       goes_on : (s t : Step) → Crowd me view s m w → ((fact : Fact) → MayHave me view s fact → MayHave me view t fact) → ((fact : Fact) (k : ℕ) → IsHeard me view s m fact k → IsHeard me view t (settled m n) fact k)
           → ((f : Frame) → MayWait me view s f → MayWait me view t f) → Crowd me view t (settled m n) w

@@ -39,10 +39,6 @@ records_next (b ∷ bs) r is =
     ap (λ (o : Option Front). and_then o (first_records (length bs))) is
     ∙ ap (λ (l : Entries). (r.name, r.content) ∷ l) (same_records (length bs) (length r.rest) r.rest (omega (arith, less)) (omega arith))
 
--- no bytes are whole records
-pub nothing_whole : IsWhole []
-nothing_whole rest = refl
-
 -- these bytes are read as this record, whatever follows them
 abbrev pub ReadsAs : List ℕ → (name content : List ℕ) → Type 0
 ReadsAs chunk name content = (rest : List ℕ) → front_of (chunk ++ rest) ≡ Some (record { name = name; content = content; rest = rest })

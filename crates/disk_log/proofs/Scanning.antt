@@ -1,22 +1,18 @@
 -- A scan of a file, record by record.
-use Rattle.std.proofs.Common.{◌≡◌, ℕ, ◌+◌, ◌-◌, ◌<◌, ◌≤◌, ◌⊎◌, inl, inr, min, Bool, true, false, List, [], ◌∷◌, ◌++◌, length, take, drop, Option, None, Some, refl, sym, ap, ◌∙◌, subst, arith, length-append}
+use Rattle.std.proofs.Common.{◌≡◌, ℕ, ◌+◌, ◌-◌, ◌<◌, ◌≤◌, ◌⊎◌, inl, inr, min, Bool, true, List, [], ◌∷◌, ◌++◌, length, take, drop, Option, None, Some, refl, sym, ap, ◌∙◌, subst, arith, length-append}
 use Rattle.std.proofs.Math.Seq.{take-append_seam, take-add}
 use Rattle.std.proofs.lemmas.List.{take_all, length-take, length-drop, take_min, drop-drop, drop_all}
 use Rattle.std.specs.Prelude.{if◌then◌else◌}
 use Rattle.std.proofs.lemmas.Bool.{cases_lt}
-use Rattle.std.specs.BTreeMap.{get, is_at}
-use Rattle.std.specs.Map.{lookup}
-use Rattle.ens_base.specs.Lists.{bytes_cmp}
 use Rattle.slot_disk.specs.Crash.{Cut, Told, Stay}
 use Rattle.disk_log.specs.Records.{Front, front_of, with_header, header_in, is_marked, entries_of}
-use Rattle.disk_log.specs.Logs.{Indexes, IsAt}
+use Rattle.disk_log.specs.Logs.{Indexes}
 use Rattle.disk_log.specs.Scans.{IsNext, IsPlaced, IsAnnounced, IsScanned, ScansAll}
 use Rattle.disk_log.specs.declared.header.Header.{Header}
-use Rattle.disk_log.specs.declared.place.Place.{Place}
 use Rattle.disk_log.specs.declared.scan.Found.{Found}
 use Rattle.disk_log.specs.declared.scan.Index.{Index}
 use Rattle.disk_log.proofs.Fronts.{chunk_of, header_shown}
-use Rattle.disk_log.proofs.RecordLaws.{nothing_whole, entries_end, front_cut}
+use Rattle.disk_log.proofs.RecordLaws.{entries_end, front_cut}
 use Rattle.disk_log.proofs.Indexing.{Places, index_more}
 
 -- what is told of known bytes, and what follows from it
@@ -85,9 +81,6 @@ announced_front bytes h = record { name = h.name; content = take h.len (drop (10
 announced_if : (bytes : List ℕ) (h : Header) (b : Bool) → header_in bytes ≡ Some h → is_marked (drop (10 + length h.name + h.len) bytes) ≡ b → front_of bytes ≡ (if b then Some (announced_front bytes h) else None)
 announced_if bytes h b is marked = ap (λ (o : Option Header). with_header o bytes) is ∙ ap (λ (t : Bool). if t then Some (announced_front bytes h) else None) marked
 
-pub ends_none : (file : List ℕ) (at : ℕ) (f : Found) → IsAnnounced at (drop at file) (Some f) → false ≡ is_marked (drop (f.place.at + f.place.len) file) → front_of (drop at file) ≡ None
-ends_none file at f (h, is, name, place, long) marked = announced_if (drop at file) h false is (ap is_marked (last_byte file at f h place long) ∙ sym marked)
-
 pub ends_some : (file : List ℕ) (at : ℕ) (f : Found) → IsAnnounced at (drop at file) (Some f) → true ≡ is_marked (drop (f.place.at + f.place.len) file) → IsNext at (drop at file) (Some f)
 ends_some file at f (h, is, name, place, long) marked =
     let bytes = drop at file in
@@ -95,16 +88,6 @@ ends_some file at f (h, is, name, place, long) marked =
     let within = marked_long bytes (10 + length h.name + h.len) last in
     let size : length (take h.len (drop (10 + length h.name) bytes)) ≡ h.len = omega (arith, length-take h.len (drop (10 + length h.name) bytes), length-drop (10 + length h.name) bytes, within) in
     (announced_front bytes h, announced_if bytes h true is last, name, place, long ∙ sym size)
-
--- before the first record
-pub scanned_none : (file : List ℕ) (index : Index) → index.end ≡ 0 → index.places.entries ≡ [] → IsScanned file index
-scanned_none file index start empty = record {
-  within = omega (arith, start);
-  indexed = subst (λ (n : ℕ). Indexes index.places (take n file)) (sym start) (record { whole = nothing_whole; each = λ name. subst (λ (o : Option Place). IsAt [] o None) (sym (none_at name)) refl });
-}
-  where
-    none_at : (name : List ℕ) → get bytes_cmp index.places name ≡ None
-    none_at name = ap (lookup (is_at (bytes_cmp name))) empty
 
 -- after one more record
 pub scanned_more : (file : List ℕ) (old new : Index) (f : Found) → IsScanned file old → IsNext old.end (drop old.end file) (Some f) → new.end ≡ f.place.at + f.place.len + 1 → Places f.name (Some f.place) old.places new.places → IsScanned file new

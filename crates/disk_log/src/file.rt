@@ -1,6 +1,4 @@
 ghost use Rattle.std.specs.Prelude.{◌≡◌, ◌≤◌, ◌+◌, ◌++◌, ◌^◌, ◌<◌, List, ℕ, length, take, drop, IfOk, OnOk, OnErr, false};
-ghost use Rattle.std.specs.Io.{ReadsAtMost};
-ghost use Rattle.slot_disk.specs.Crash.{SeenIn};
 ghost use Rattle.slot_disk.specs.Faults.{CountsFaults};
 
 use ens_base::Failed;

@@ -1,4 +1,4 @@
-ghost use Rattle.std.specs.Prelude.{◌≡◌, ◌≤◌, ◌<◌, ◌+◌, List, ℕ, length, take, drop, Some, IfOk, IfErr, OnOk, OnErr, IsErrOf, IsSome, ◌^◌, cond};
+ghost use Rattle.std.specs.Prelude.{◌≡◌, ◌≤◌, ◌<◌, ◌+◌, List, ℕ, length, take, Some, IfOk, IfErr, OnOk, OnErr, IsErrOf, IsSome, ◌^◌, cond};
 ghost use Rattle.std.specs.BTreeMap.{get, is_at};
 ghost use Rattle.slot_disk.specs.Crash.{Told, SeenIn};
 ghost use Rattle.ens_base.specs.Lists.{bytes_cmp};

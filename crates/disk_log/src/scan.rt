@@ -1,4 +1,4 @@
-ghost use Rattle.std.specs.Prelude.{◌≡◌, ◌≤◌, ◌<◌, ◌+◌, List, ℕ, length, take, drop, IfOk, IfErr, OnOk, Some};
+ghost use Rattle.std.specs.Prelude.{◌≡◌, ◌≤◌, ◌<◌, ◌+◌, length, take, drop, IfOk, OnOk, Some};
 ghost use Rattle.slot_disk.specs.Crash.{Told, Stay, SeenIn};
 ghost use Rattle.ens_outside.specs.Stores.{StoreCounts};
 ghost use Rattle.slot_disk.specs.Faults.{CountsFaults};

@@ -1,4 +1,4 @@
-ghost use Rattle.std.specs.Prelude.{◌≡◌, List, ℕ, IfOk, IfErr, OnOk};
+ghost use Rattle.std.specs.Prelude.{◌≡◌, IfOk, IfErr, OnOk};
 ghost use Rattle.slot_disk.specs.Crash.{Told, SeenIn};
 ghost use Rattle.ens_outside.specs.Maps.{Entries};
 ghost use Rattle.disk_log.specs.LogFiles.{IsClean};

@@ -1,4 +1,4 @@
-ghost use Rattle.std.specs.Prelude.{◌≡◌, ◌≤◌, List, ℕ, [], Some, IfOk, IfErr, OnOk, OnErr};
+ghost use Rattle.std.specs.Prelude.{◌≡◌, [], Some, IfOk, IfErr, OnOk};
 ghost use Rattle.slot_disk.specs.Crash.{Told, SeenIn};
 ghost use Rattle.ens_outside.specs.Maps.{Entries, value_at};
 ghost use Rattle.ens_outside.specs.MemStores.{Held};

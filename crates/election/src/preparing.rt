@@ -1,6 +1,6 @@
 ghost use Rattle.std.specs.Prelude.{◌≡◌};
 ghost use Rattle.ens_base.specs.View.{IsPeer};
-ghost use Rattle.election.specs.Preparing.{PreparesBelow6, prepares, promised_by, first_fact as first, starts, elected, row_3, row_10, row_12, row_13};
+ghost use Rattle.election.specs.Preparing.{PreparesBelow6, prepares, first_fact as first, starts, elected, row_3, row_10, row_12, row_13};
 
 use crate::election::Election;
 use ens_base::{Epoch, PeerId, PeerSet, Views};

@@ -1,10 +1,8 @@
 -- A view that is filled one number after another.
-use Rattle.std.proofs.Common.{◌≡◌, ◌+◌, ◌-◌, ◌<◌, ◌≤◌, ℕ, suc, List, [], ◌∷◌, ◌++◌, Contains, length, take, drop, slice_index, append_assoc, arith, refl, sym, ap, subst, ◌∙◌}
+use Rattle.std.proofs.Common.{◌≡◌, ◌+◌, ◌-◌, ◌<◌, ◌≤◌, ℕ, suc, List, [], ◌∷◌, ◌++◌, Contains, length, take, slice_index, append_assoc, arith, sym, ap, ◌∙◌}
 use Rattle.std.specs.Prelude.{replicate, slice_set}
-use Rattle.std.proofs.lemmas.List.{length-append, length-replicate, take_at, drop_at, take_more, set_at, length-take}
+use Rattle.std.proofs.lemmas.List.{take_more, set_at, length-take}
 use Rattle.ens_base.specs.View.{IsView}
-use Rattle.ens_base.specs.Packed.{IsPacked}
-use Rattle.ens_base.specs.declared.view.View.TheInside.{Inside}
 
 -- one more number
 pub filled : (xs buf : List ℕ) (i : ℕ) → i < length xs → length xs ≤ 9 → buf ≡ take i xs ++ replicate (9 - i) 0 → slice_set buf i (slice_index xs i) ≡ take (i + 1) xs ++ replicate (9 - (i + 1)) 0
@@ -15,18 +13,6 @@ filled xs buf i below few is =
     ∙ set_at (take i xs) 0 (replicate (9 - (i + 1)) 0) (slice_index xs i) i front
     ∙ sym (append_assoc (take i xs) (slice_index xs i ∷ []) (replicate (9 - (i + 1)) 0))
     ∙ ap (λ (bs : List ℕ). bs ++ replicate (9 - (i + 1)) 0) (sym (take_more xs i 0 below))
-
--- all numbers: the view is packed, and has just these
-pub all_filled : (xs buf : List ℕ) (n : ℕ) → n ≡ length xs → IsView xs → buf ≡ xs ++ replicate (9 - length xs) 0 → IsPacked (record { buf = buf; len = n })
-all_filled xs buf n all view is =
-    let some = view.size in
-    let front : take n buf ≡ xs = ap (take n) is ∙ take_at xs (replicate (9 - length xs) 0) n (sym all) in
-    record {
-      size = omega (arith, ap length is, length-append xs (replicate (9 - length xs) 0), length-replicate {A = ℕ} (9 - length xs) 0, some.1);
-      view = subst IsView (sym front) view;
-      within = omega (arith, all, some.1);
-      padded = ap (drop n) is ∙ drop_at xs (replicate (9 - length xs) 0) n (sym all) ∙ ap (λ (m : ℕ). replicate (9 - m) 0) (sym all);
-    }
 
 -- a number past the bytes is no member's
 pub no_member : (xs : List ℕ) (p : ℕ) → IsView xs → ¬ (p < 256) → ¬ Contains xs p

@@ -11,7 +11,7 @@ pub struct PeerSet {
 }
 
 impl Model for PeerSet {
-    ghost use Rattle.std.specs.Prelude.{◌≡◌, Bool, List, length};
+    ghost use Rattle.std.specs.Prelude.{◌≡◌, Bool, List};
 
     ghost Value = { List Bool };
 

@@ -1,5 +1,5 @@
 -- Bytes, spellings one after the other, and writes one after the other.
-use Rattle.std.proofs.Common.{◌≡◌, ℕ, ◌+◌, ◌-◌, ◌≤◌, List, [], ◌∷◌, ◌++◌, length, take, drop, refl, sym, ap, ◌∙◌, append_assoc, append-nil, take-append-drop, arith, inl, inr, length-append, length-take}
+use Rattle.std.proofs.Common.{◌≡◌, ℕ, ◌+◌, ◌-◌, ◌≤◌, List, [], ◌∷◌, ◌++◌, length, take, drop, refl, sym, ap, ◌∙◌, append_assoc, take-append-drop, arith, inl, inr, length-append, length-take}
 use Rattle.std.proofs.lemmas.Bool.{cases_lt}
 use Rattle.std.proofs.lemmas.List.{get_or-drop, get_or-take, get_or_past, drop-drop}
 use Rattle.std.proofs.lemmas.Slice.{take-put_mid, drop-put_mid}
@@ -51,9 +51,6 @@ Writes-mid old at n k x fits size same = record {
   back = drop-put_mid at k old x (at + n) (omega arith) (omega arith) (omega arith);
   place = omega (arith, size);
 }
-
-pub Writes-nothing : (old : List ℕ) (at : ℕ) → Writes old old at [] at
-Writes-nothing old at = record { front = sym (append-nil (take at old)); back = refl; place = omega arith }
 
 -- what was written over the front is the spelling, and then what stood behind it
 pub Writes-whole : (old new x : List ℕ) (end : ℕ) → Writes old new 0 x end → new ≡ x ++ drop end old

@@ -1,44 +1,12 @@
 -- Faults with the name of a rule, and without.
-use Rattle.std.proofs.Common.{◌≡◌, ℕ, List, Result, Ok, Err, refl, ap}
-use Rattle.std.specs.Prelude.{IfOk}
+use Rattle.std.proofs.Common.{◌≡◌, ℕ, List, Result, Ok, Err, ap}
 use Rattle.ens_fields.specs.declared.field_error.FieldError.{FieldError}
 use Rattle.ens_fields.specs.declared.field_error.FieldError.TheVariants.{Short, Rule, Memory}
 use Rattle.ens_fields.specs.declared.fault.Fault.{Fault}
 use Rattle.ens_fields.specs.declared.fault.Fault.TheVariants.{Ended, Broken, NoMemory}
-use Rattle.ens_fields.specs.Reading.{Gives}
 use Rattle.ens_fields.specs.Grammar.{IsGrammar}
-use Rattle.ens_fields.specs.Faults.{with_rule, plain, without_rule, Finds}
+use Rattle.ens_fields.specs.Faults.{with_rule, plain, without_rule}
 use Rattle.ens_fields.proofs.GrammarLaws.{Reader, ok_is, right}
-
-pub with_rule_finds : {X R : Type 0} (rule : R) (r read : Result X FieldError) → Gives r read → Finds (with_rule rule r) (with_rule rule read)
-with_rule_finds rule (Ok x) read h = rw h refl
-with_rule_finds rule (Err (Short at)) read h = rw h refl
-with_rule_finds rule (Err (Rule at)) read h = rw h refl
-with_rule_finds rule (Err Memory) read h = tt
-
-pub without_rule_gives : {X R : Type 0} (r read : Result X (Fault R)) → Finds r read → Gives (without_rule r) (without_rule read)
-without_rule_gives (Ok x) read h = rw h refl
-without_rule_gives (Err (Ended at)) read h = rw h refl
-without_rule_gives (Err (Broken rule at)) read h = rw h refl
-without_rule_gives (Err NoMemory) read h = tt
-
-pub with_rule_keeps : {X R : Type 0} (rule : R) (P : X → Type 0) (r : Result X FieldError) → IfOk r P → IfOk (with_rule rule r) P
-with_rule_keeps rule P (Ok x) h = h
-with_rule_keeps rule P (Err (Short at)) h = tt
-with_rule_keeps rule P (Err (Rule at)) h = tt
-with_rule_keeps rule P (Err Memory) h = tt
-
-pub plain_keeps : {X : Type 0} (R : Type 0) (P : X → Type 0) (r : Result X FieldError) → IfOk r P → IfOk (plain {R = R} r) P
-plain_keeps R P (Ok x) h = h
-plain_keeps R P (Err (Short at)) h = tt
-plain_keeps R P (Err (Rule at)) h = tt
-plain_keeps R P (Err Memory) h = tt
-
-pub without_rule_keeps : {X R : Type 0} (P : X → Type 0) (r : Result X (Fault R)) → IfOk r P → IfOk (without_rule r) P
-without_rule_keeps P (Ok x) h = h
-without_rule_keeps P (Err (Ended at)) h = tt
-without_rule_keeps P (Err (Broken rule at)) h = tt
-without_rule_keeps P (Err NoMemory) h = tt
 
 with_rule_ok : {X R : Type 0} (rule : R) (r : Result X FieldError) (x : X) → with_rule rule r ≡ right (Fault R) x → r ≡ Ok x
 with_rule_ok {R = R} rule (Ok y) x e = ap (λ z. Ok z) (ok_is (Fault R) y x e)

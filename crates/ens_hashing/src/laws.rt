@@ -1,4 +1,4 @@
-ghost use Rattle.std.specs.Prelude.{◌≡◌, ℕ, List, [], Option, Some, None, Contains, Result};
+ghost use Rattle.std.specs.Prelude.{◌≡◌, ℕ, List, [], Option, Contains, Result};
 ghost use Rattle.md5.specs.Md5.{md5};
 ghost use Rattle.ens_hashing.specs.Hashing.{Book, Takes, Admits, IsClashFree, AreClashFree};
 ghost use Rattle.ens_hashing.specs.declared.error.HashError.{HashError};

@@ -1,25 +1,14 @@
 -- Sequences of reads and of writes compose.
-use Rattle.std.proofs.Common.{◌≡◌, ℕ, ◌+◌, List, [], ◌∷◌, ◌++◌, length, take, drop, Option, Some, None, refl, sym, ap, ◌∙◌, append_assoc, arith}
-use Rattle.std.proofs.lemmas.Grind.{common_steps}
+use Rattle.std.proofs.Common.{◌≡◌, ℕ, ◌+◌, List, [], ◌∷◌, ◌++◌, length, take, drop, Option, Some, None, refl, sym, ap, ◌∙◌, append_assoc}
 use Rattle.std.proofs.Math.Seq.{take-add}
 use Rattle.std.specs.Prelude.{◌≢◌, IfSome}
-use Rattle.std.specs.Io.KnownBytes.{Appends, Keeps, prepend_known}
+use Rattle.std.specs.Io.KnownBytes.{Appends, prepend_known}
 
 pub appends_more : (a b c : Option (List ℕ)) (xs : List ℕ) (i n : ℕ) → Appends a b (take i xs) → Appends b c (take n (drop i xs)) → Appends a c (take (i + n) xs)
 appends_more None b c xs i n p q = tt
 appends_more (Some x) None c xs i n p q = absurd p
 appends_more (Some x) (Some y) None xs i n p q = absurd q
 appends_more (Some x) (Some y) (Some z) xs i n p q = q ∙ ap (λ (l : List ℕ). l ++ take n (drop i xs)) p ∙ append_assoc x (take i xs) (take n (drop i xs)) ∙ ap (λ (l : List ℕ). x ++ l) (sym (take-add i n xs))
-
-pub appends_kept : (a b c : Option (List ℕ)) (xs : List ℕ) → Appends a b xs → Keeps b c → Appends a c xs
-appends_kept None b c xs p q = tt
-appends_kept (Some x) None c xs p q = absurd p
-appends_kept (Some x) (Some y) None xs p q = absurd q
-appends_kept (Some x) (Some y) (Some z) xs p q = q ∙ p
-
-pub appends_none : (a : Option (List ℕ)) (xs : List ℕ) → Appends a a (take 0 xs)
-appends_none None xs = tt
-appends_none (Some x) xs = grind (arith, common_steps)
 
 -- if bytes are pending, bytes are left
 pub some_pending : (p : List ℕ) (left : Option (List ℕ)) → ¬ (length p ≡ 0) → IfSome (prepend_known p left) (λ rest. rest ≢ [])

@@ -1,4 +1,4 @@
-ghost use Rattle.std.specs.Prelude.{◌≡◌, ◌≢◌, ◌↔◌, ℕ, List, [], ◌++◌, ◌∷◌, Some, None, Contains, map, length, ◌+◌};
+ghost use Rattle.std.specs.Prelude.{◌≡◌, ◌≢◌, ◌↔◌, ℕ, List, [], ◌++◌, ◌∷◌, Some, None, map, length, ◌+◌};
 ghost use Rattle.ens_base.specs.Lists.{◌∈◌};
 ghost use Rattle.ens_outside.specs.Maps.{Entries, value_at, with_value};
 ghost use Rattle.ens_outside.specs.Failures.{planned};

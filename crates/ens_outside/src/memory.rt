@@ -1,8 +1,7 @@
-ghost use Rattle.std.specs.Prelude.{◌≡◌, ◌↔◌, ◌⊎◌, ◌<◌, ◌≤◌, ◌-◌, List, [], ℕ, Option, Some, drop, length, min, vec_capacity, IfOk, IsErr, Contains};
+ghost use Rattle.std.specs.Prelude.{◌≡◌, ◌<◌, ◌≤◌, ◌-◌, [], Some, drop, length, min, vec_capacity, IfOk};
 ghost use Rattle.std.specs.Io.{ReadsAtMost, WritesAtMost};
 ghost use Rattle.std.specs.Io.KnownBytes.{ReadConsumes, WriteAppends};
 ghost use Rattle.ens_base.specs.Causes.{HasCause};
-ghost use Rattle.ens_outside.specs.Written.{IsWithoutRoom};
 
 mod backend;
 mod failing_call;

@@ -1,7 +1,7 @@
-ghost use Rattle.std.specs.Prelude.{◌≡◌, ◌<◌, List, ℕ, Option, length, IfOk, OnOk, OnErr};
+ghost use Rattle.std.specs.Prelude.{◌≡◌, ◌<◌, List, ℕ, Option, length, IfOk, OnOk};
 ghost use Rattle.std.specs.Io.{WritesAtMost};
 ghost use Rattle.std.specs.Io.KnownBytes.{WriteAppends, Appends};
-ghost use Rattle.ens_base.specs.Causes.{HasCause, Rose};
+ghost use Rattle.ens_base.specs.Causes.{HasCause};
 ghost use Rattle.ens_outside.specs.Written.{AppendsFront};
 
 use ens_base::Failed;

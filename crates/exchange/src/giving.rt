@@ -1,4 +1,4 @@
-ghost use Rattle.std.specs.Prelude.{◌≡◌, IfOk, IfErr};
+ghost use Rattle.std.specs.Prelude.{◌≡◌, IfErr};
 ghost use Rattle.tree_node.specs.Nodes.{inner_of, segment_of};
 ghost use Rattle.tree_node.specs.Positions.{IsPosition};
 ghost use Rattle.tree_maps.specs.Sixteen.{form_of};

@@ -6,7 +6,7 @@ ghost use Rattle.tree_node.specs.Nodes.{inner_of};
 ghost use Rattle.tree_node.specs.declared.version.TreeVersion.TheVariants.{Two};
 ghost use Rattle.synctree.specs.Outsides.{outside_does, outside_refuses};
 ghost use Rattle.synctree.specs.Plans.{Did};
-ghost use Rattle.exchange.specs.Asks.{names_in, or_none, after_inner, after_page, stepped, reply as reply_to, taken, needs_own as needs_own_node, own_plan, Steps, Takes};
+ghost use Rattle.exchange.specs.Asks.{names_in, or_none, after_inner, after_page, stepped, reply as reply_to, taken, own_plan, Steps, Takes};
 ghost use Rattle.exchange.specs.Causes.{IsCause};
 ghost use Rattle.exchange.specs.Gives.{Makes};
 ghost use Rattle.exchange.specs.declared.error.AskError.TheVariants.{Memory};

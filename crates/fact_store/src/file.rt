@@ -1,10 +1,9 @@
-ghost use Rattle.std.specs.Prelude.{◌≡◌, ◌≤◌, ◌<◌, ◌⊎◌, ◌+◌, ◌-◌, ◌^◌, min, ℕ, List, Option, Some, None, Result, Ok, Err, IfOk, IfErr, IsErrOf, OnOk, OnErr};
-ghost use Rattle.ens_base.specs.Causes.{HasCause, Rose};
+ghost use Rattle.std.specs.Prelude.{◌≡◌, ◌≤◌, ◌<◌, ◌⊎◌, ◌+◌, ◌-◌, ◌^◌, ℕ, List, Option, Some, None, Result, Ok, Err, IfOk, IfErr, IsErrOf, OnOk, OnErr};
 ghost use Rattle.slot_disk.specs.Crash.{Told, StaysSeen, LeavesOnly, SeenIn, IsOn};
 ghost use Rattle.slot_disk.specs.Slots.{record_in, last_serial};
 ghost use Rattle.slot_disk.specs.SlotFiles.{remembered, IsAtRest};
 ghost use Rattle.peer_fact.specs.SavedBytes.{saved_of};
-ghost use Rattle.fact_store.specs.Keeping.{IsBad, Loads, IsOldOrNew, IsOldOrNewIn, IsPutError, IsOpenError, opened_with, fact_in, file_fact};
+ghost use Rattle.fact_store.specs.Keeping.{IsBad, Loads, IsOldOrNewIn, IsPutError, IsOpenError, opened_with, fact_in, file_fact};
 ghost use Rattle.fact_store.specs.declared.error.KeepError.TheVariants as errors;
 ghost use Rattle.slot_disk.specs.declared.error.SlotError.TheVariants as slot_errors;
 

@@ -1,4 +1,4 @@
-ghost use Rattle.std.specs.Prelude.{◌≡◌, not, ◌&&◌};
+ghost use Rattle.std.specs.Prelude.{◌≡◌, ◌&&◌};
 ghost use Rattle.ens_base.specs.View.{IsPeer};
 ghost use Rattle.following.specs.Refusals.{refusal as refusal_of, is_served as serves, tells_damage as told_damage};
 

@@ -1,11 +1,11 @@
 -- Walks along calls and orders, step by step.
-use Rattle.std.proofs.Common.{◌≡◌, ℕ, suc, ◌+◌, ◌<◌, ◌≤◌, Bool, true, false, cond, List, [], ◌∷◌, ◌++◌, length, get_or, take, drop, Option, None, Some, inl, inr, refl, sym, ap, ◌∙◌, arith}
+use Rattle.std.proofs.Common.{◌≡◌, ℕ, suc, ◌+◌, ◌<◌, ◌≤◌, Bool, true, false, cond, List, [], ◌∷◌, ◌++◌, length, get_or, take, drop, Option, Some, inl, inr, refl, sym, ap, ◌∙◌, arith}
 use Rattle.std.specs.Prelude.{◌==◌, ◌&&◌, ◌||◌, not, nat_lt, min, if◌then◌else◌}
 use Rattle.std.specs.List.{list_any}
 use Rattle.std.specs.BTreeMap.{is_at}
 use Rattle.std.specs.Ordering.{is_eq, nat_cmp}
 use Rattle.std.proofs.lemmas.Bool.Decides.{nat_tests}
-use Rattle.std.proofs.lemmas.List.{drop_more, drop_all, take_more}
+use Rattle.std.proofs.lemmas.List.{drop_more, take_more}
 use Rattle.std.proofs.lemmas.Map.Text.{is_eq-slice_cmp}
 use Rattle.ens_base.specs.Lists.{is_in, same_bytes, bytes_cmp}
 use Rattle.ens_base.proofs.Tests.{at_number, last_or_none}
@@ -107,9 +107,6 @@ min_before a b event = grind (arith, nat_tests)
 
 -- ## Ids, from the first on
 
-pub none_in : (q : ℕ) (ids : List ℕ) → ids ≡ [] → is_in ids q ≡ false
-none_in q ids e = ap (λ (l : List ℕ). is_in l q) e
-
 pub set_step : (ids : List ℕ) (n d q : ℕ) → n < length ids → (old new : Bool) → old ≡ is_in (take n ids) q → new ≡ cond (is_at (nat_cmp (get_or ids n d)) q) true old → new ≡ is_in (take (n + 1) ids) q
 set_step ids n d q lt old new e f =
     f ∙ (λ i. cond ((at_number (get_or ids n d) q ∙ flip (get_or ids n d) q) i) true (e i)) ∙ or_cond (q == get_or ids n d) (is_in (take n ids) q) ∙ sym (is_in-push (take n ids) (get_or ids n d) q)
@@ -122,13 +119,6 @@ set_step ids n d q lt old new e f =
     or_cond false false = refl
 
 module _ (answers : List Answer) (order ids : List ℕ) (n d : ℕ) where
-  pub amiss_found : n < length ids → is_amiss answers order (get_or ids n d) ≡ true → first_amiss_in answers order (drop n ids) ≡ first_amiss_in answers order ids → Some (get_or ids n d) ≡ first_amiss_in answers order ids
-  amiss_found lt e so_far =
-      sym (ap (first_amiss_in answers order) (drop_more ids n d lt) ∙ ap (λ (b : Bool). if b then Some (get_or ids n d) else first_amiss_in answers order (drop (n + 1) ids)) e) ∙ so_far
-
   pub amiss_on : n < length ids → is_amiss answers order (get_or ids n d) ≡ false → first_amiss_in answers order (drop n ids) ≡ first_amiss_in answers order ids → first_amiss_in answers order (drop (n + 1) ids) ≡ first_amiss_in answers order ids
   amiss_on lt e so_far =
       sym (ap (first_amiss_in answers order) (drop_more ids n d lt) ∙ ap (λ (b : Bool). if b then Some (get_or ids n d) else first_amiss_in answers order (drop (n + 1) ids)) e) ∙ so_far
-
-  pub amiss_end : length ids ≤ n → first_amiss_in answers order (drop n ids) ≡ first_amiss_in answers order ids → None ≡ first_amiss_in answers order ids
-  amiss_end end so_far = sym (ap (first_amiss_in answers order) (drop_all n ids end)) ∙ so_far

@@ -89,16 +89,3 @@ ended-fit p [] s h begun = finished-fit p s (at_line_ok (lines_so_far p + 1) (fi
 ended-fit p (b ∷ rest) s h begun =
     let parts = unless_lines (lines_so_far p == most_lines) (at_next p (bounded (b ∷ rest) (Err Unfinished))) s h in
     absurd (bounded_err (b ∷ rest) Unfinished s (at_line_ok (lines_so_far p + 1) (bounded (b ∷ rest) (Err Unfinished)) s parts.1))
-
-finished-lines : (p : Progress) (s : Schedule) → finished p ≡ Ok s → length s.events + 3 ≡ lines_so_far p
-finished-lines Blank s h = cc h
-finished-lines (Titled form) s h = cc h
-finished-lines (Counted form peers) s h = cc h
-finished-lines (Running form peers view events) s h = subst (λ (t : Schedule). length t.events + 3 ≡ 3 + length events) (ok_same h) (omega arith)
-
--- the lines of the schedule that ends here
-pub ended-lines : (p : Progress) (s : Schedule) → ended p [] ≡ Ok s → length s.events + 3 ≡ lines_so_far p
-ended-lines p s h = finished-lines p s (at_line_ok (lines_so_far p + 1) (finished p) s h)
-
-pub blank_begun : IsBegun Blank
-blank_begun = record { few = omega arith; distinct = tt }

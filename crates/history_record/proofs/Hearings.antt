@@ -16,9 +16,9 @@ use Rattle.schedule_text.specs.declared.event.ScheduleEvent.{ScheduleEvent}
 use Rattle.schedule_text.specs.declared.event.ScheduleEvent.TheVariants as line
 use Rattle.schedule_text.specs.declared.schedule.Schedule.{Schedule}
 use Rattle.schedule_text.proofs.Ids.{in_end}
-use Rattle.history_record.specs.Calls.{call_event, calls_from, change_peer}
+use Rattle.history_record.specs.Calls.{call_event, calls_from}
 use Rattle.history_record.specs.Kept.{IsFit, IsKept, IsSound}
-use Rattle.history_record.specs.Telling.{Heard, is_answered, is_changed, nothing_heard}
+use Rattle.history_record.specs.Telling.{Heard, is_answered, nothing_heard}
 use Rattle.history_record.proofs.Gathered.{HasGathered}
 
 -- ## The event of a call
@@ -117,17 +117,6 @@ module _ (h : Heard) (calls changes : ℕ → Option ℕ) (more : ℕ) (sound : 
   abbrev changed : ℕ → Heard
   changed event = record h { lines = h.lines + 1; changes = h.changes ++ event ∷ []; latest = event }
 
-  pub change_sound : (event : ℕ) → IsSound (changed event)
-  change_sound event = record { schedule = sound.schedule; answers = sound.answers; in_order = sound.in_order; keys = sound.keys }
-
-  pub change_kept : (event : ℕ) (next : ℕ → Option ℕ) (n : ℕ) → ((q : ℕ) → next q ≡ cond (is_at (nat_cmp event) q) None (changes q)) → n + 1 ≤ more → IsKept (changed event) calls next n
-  change_kept event next n updates less = record {
-    calls = kept.calls;
-    changes = λ q. closed_one (is_changed h.changes q) (event == q) (change_peer 1 h.schedule.events q) (next q) (updates q ∙ (λ i. cond (at_number event q i) None (kept.changes q i)))
-        ∙ ap (λ (b : Bool). if b then None else change_peer 1 h.schedule.events q) (sym (any_more (λ (e : ℕ). e == q) h.changes event));
-    few = let few : h.lines + more ≤ 800004 = kept.few in omega arith;
-  }
-
   abbrev told : History → List (List ℕ) → Heard
   told history keys = record h { lines = h.lines + 1; histories = h.histories ++ history ∷ []; keys = keys }
 
@@ -144,9 +133,6 @@ module _ (h : Heard) (calls changes : ℕ → Option ℕ) (more : ℕ) (sound : 
   history_kept history keys n less = record { calls = kept.calls; changes = kept.changes; few = let few : h.lines + more ≤ 800004 = kept.few in omega arith }
 
 -- ## The beginning
-
-pub first_sound : (s : Schedule) → IsFit s → IsSound (nothing_heard s)
-first_sound s fit = record { schedule = fit; answers = tt; in_order = λ a c given there named. absurd given; keys = refl }
 
 pub first_kept : (s : Schedule) (calls changes : ℕ → Option ℕ) (keys : List (List ℕ)) (n : ℕ) → IsFit s → HasGathered s.events calls changes keys n 0 → IsKept (nothing_heard s) calls changes n
 first_kept s calls changes keys n fit has = record {

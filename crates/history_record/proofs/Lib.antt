@@ -4,7 +4,6 @@ pub mod Hearings
 pub mod Readings
 pub mod Spelled
 pub mod Refused
-pub mod Long
 pub mod Stages
 pub mod Called
 pub mod Shortening

@@ -1,16 +1,15 @@
 -- Reading a record, line by line.
-use Rattle.std.proofs.Common.{◌≡◌, ℕ, ◌+◌, ◌<◌, ◌≤◌, List, [], ◌∷◌, ◌++◌, length, get_or, drop, map, Result, Ok, Err, refl, sym, ap, ◌∙◌, append_assoc, append-nil}
-use Rattle.std.proofs.lemmas.List.{drop_more, drop_all}
+use Rattle.std.proofs.Common.{◌≡◌, ℕ, ◌+◌, ◌<◌, List, [], ◌∷◌, ◌++◌, length, get_or, drop, map, Result, Ok, Err, refl, sym, ap, ◌∙◌, append_assoc, append-nil}
+use Rattle.std.proofs.lemmas.List.{drop_more}
 use Rattle.ens_base.specs.Results.{◌>>=◌}
 use Rattle.schedule_text.specs.Texts.{texts, Word}
 use Rattle.schedule_text.specs.declared.event.ScheduleEvent.TheVariants as line
 use Rattle.history_record.specs.Kept.{IsSound}
 use Rattle.history_record.specs.Lines.{ids_from, number}
-use Rattle.history_record.specs.Reading.{Stage, Stops, and_then, next_stage, read_parts}
+use Rattle.history_record.specs.Reading.{Stage, and_then, next_stage, read_parts}
 use Rattle.history_record.specs.Records.{IsRecord}
 use Rattle.history_record.specs.Telling.{Heard}
 use Rattle.history_record.specs.declared.error.AuditError.{AuditError}
-use Rattle.history_record.specs.declared.error.AuditError.TheVariants.{Bad, Lines, Memory}
 use Rattle.history_record.specs.declared.flaw.Flaw.{Flaw}
 use Rattle.history_record.specs.declared.record.Record.{Record}
 
@@ -26,17 +25,6 @@ after (Err flaw) items id = refl
 module _ (words : List Word) (n : ℕ) (word : Word) (lt : n < length words) (at : word ≡ get_or words n word) (items : List ℕ) (whole : Ids) (so_far : (ids_from (texts (drop n words)) >>= λ rest. Ok (items ++ rest)) ≡ whole) where
   here : (number word.now >>= λ id. ids_from (texts (drop (n + 1) words)) >>= λ ids. Ok (id ∷ ids)) >>= (λ rest. Ok (items ++ rest)) ≡ whole
   here = sym (ap (λ (l : List Word). ids_from (texts l) >>= λ rest. Ok (items ++ rest)) (drop_more words n word lt ∙ ap (λ (w : Word). w ∷ drop (n + 1) words) (sym at))) ∙ so_far
-
-  pub id_taken : (id : ℕ) (next : List ℕ) → number word.now ≡ Ok id → next ≡ items ++ id ∷ [] → (ids_from (texts (drop (n + 1) words)) >>= λ rest. Ok (next ++ rest)) ≡ whole
-  id_taken id next e f =
-      ap (λ (l : List ℕ). ids_from (texts (drop (n + 1) words)) >>= λ rest. Ok (l ++ rest)) f ∙ sym (after (ids_from (texts (drop (n + 1) words))) items id)
-      ∙ sym (ap (λ (r : Result ℕ Flaw). (r >>= λ id. ids_from (texts (drop (n + 1) words)) >>= λ ids. Ok (id ∷ ids)) >>= λ rest. Ok (items ++ rest)) e) ∙ here
-
-  pub id_refused : (flaw : Flaw) → number word.now ≡ Err flaw → whole ≡ Err flaw
-  id_refused flaw e = sym here ∙ ap (λ (r : Result ℕ Flaw). (r >>= λ id. ids_from (texts (drop (n + 1) words)) >>= λ ids. Ok (id ∷ ids)) >>= λ rest. Ok (items ++ rest)) e
-
-pub ids_end : (words : List Word) (n : ℕ) (items : List ℕ) (whole : Ids) → length words ≤ n → (ids_from (texts (drop n words)) >>= λ rest. Ok (items ++ rest)) ≡ whole → whole ≡ Ok items
-ids_end words n items whole end so_far = sym so_far ∙ ap (λ (l : List Word). ids_from (texts l) >>= λ rest. Ok (items ++ rest)) (drop_all n words end) ∙ ap Ok (append-nil items)
 
 -- ## The lines
 
@@ -57,11 +45,6 @@ module _ (lines : List Word) (n : ℕ) (line rest : Word) (lt : n < length lines
 
   pub line_taken : (new : Stage) → next_stage old line.now ≡ Ok new → read_parts new (texts (drop (n + 1) lines ++ rest ∷ [])) ≡ whole
   line_taken new e = sym (ap (λ (r : Result Stage AuditError). and_then r (λ s. read_parts s (texts (drop (n + 1) lines ++ rest ∷ [])))) e) ∙ this
-
-  pub line_stops : (e : AuditError) → Stops (next_stage old line.now) e → Stops whole e
-  line_stops (Bad number cause) e = sym this ∙ ap (λ (r : Result Stage AuditError). and_then r (λ s. read_parts s (texts (drop (n + 1) lines ++ rest ∷ [])))) e
-  line_stops Lines e = sym this ∙ ap (λ (r : Result Stage AuditError). and_then r (λ s. read_parts s (texts (drop (n + 1) lines ++ rest ∷ [])))) e
-  line_stops Memory e = tt
 
 -- ## The end
 

@@ -211,11 +211,6 @@ parts_alike [] s t e = sym (end_short s []) ∙ ap (λ (u : Stage). short_result
 parts_alike (rest ∷ []) s t e = sym (end_short s rest) ∙ ap (λ (u : Stage). short_result (end_stage u rest)) e ∙ end_short t rest
 parts_alike (text ∷ next ∷ more) s t e = followed (next_stage s text) (next_stage t text) (λ u. read_parts u (next ∷ more)) (next_both s t e text) (parts_alike (next ∷ more))
 
--- an error, and a record, of the same shortening
-pub short_error : (r : Result Record AuditError) (e : AuditError) → short_result r ≡ Err e → r ≡ Err e
-short_error (Ok r) e is = absurd (cc is)
-short_error (Err f) e is = is
-
 pub short_like : (a : Result Record AuditError) (r : Record) → short_result a ≡ Ok (short_record r) → (told : Record) × (a ≡ Ok told) × (short_record told ≡ short_record r)
 short_like (Ok told) r is = (told, refl, cc is)
 short_like (Err e) r is = absurd (cc is)

@@ -1,8 +1,8 @@
-ghost use Rattle.std.specs.Prelude.{◌≡◌, IfOk, map};
+ghost use Rattle.std.specs.Prelude.{◌≡◌};
 ghost use Rattle.schedule_text.specs.Arguments.{has_empty};
 ghost use Rattle.schedule_text.specs.Texts.{texts};
 ghost use Rattle.history_record.specs.Flaws.{Finds};
-ghost use Rattle.history_record.specs.Lines.{answer_from, answer_named, answer_of, change_from, change_of, history_from, history_of, ids_from, line_from, line_of, line_words as words_line, number, ok_from, outcome_of, plain, reply_from, value_from};
+ghost use Rattle.history_record.specs.Lines.{answer_from, answer_of, change_from, change_of, history_from, history_of, ids_from, line_from, line_of, number, ok_from, outcome_of, plain, reply_from, value_from};
 
 use crate::flaw::{Flaw, LineError};
 use crate::reply_name::ReplyName;

@@ -1,4 +1,4 @@
-ghost use Rattle.std.specs.Prelude.{◌≡◌, IfOk};
+ghost use Rattle.std.specs.Prelude.{IfOk};
 ghost use Rattle.history_record.specs.Reading.{Answers, record_of};
 ghost use Rattle.history_record.specs.Records.{IsRecord};
 

@@ -1,7 +1,7 @@
 -- Notes that are added one after another.
 use Rattle.std.specs.Prelude.{OnErr}
-use Rattle.std.proofs.Common.{◌≡◌, ◌++◌, ◌∷◌, [], ℕ, List, Result, Ok, Err, length, take, refl, sym, ap, ◌∙◌, arith}
-use Rattle.std.proofs.lemmas.List.{append-nil, append_assoc, take-append-le, take_all}
+use Rattle.std.proofs.Common.{◌≡◌, ◌++◌, [], ℕ, List, Result, Ok, Err, length, take, sym, ap, ◌∙◌, arith}
+use Rattle.std.proofs.lemmas.List.{append-nil, take-append-le, take_all}
 use Rattle.register_model.specs.declared.note.Note.{Note}
 
 -- some of the notes have been added, and these are left
@@ -9,16 +9,6 @@ pub record Taking (old all now left : List Note) : Type 0 where
   pub taken : List Note
   pub split : all ≡ taken ++ left
   pub so_far : now ≡ old ++ taken
-
-pub none_taken : (old all : List Note) → Taking old all old all
-none_taken old all = record { taken = []; split = refl; so_far = sym (append-nil old) }
-
-pub one_taken : (old all now left more : List Note) (n : Note) → left ≡ n ∷ more → Taking old all now left → Taking old all (now ++ n ∷ []) more
-one_taken old all now left more n is t = record {
-  taken = t.taken ++ n ∷ [];
-  split = t.split ∙ ap (λ (l : List Note). t.taken ++ l) is ∙ sym (append_assoc t.taken (n ∷ []) more);
-  so_far = ap (λ (l : List Note). l ++ n ∷ []) t.so_far ∙ append_assoc old t.taken (n ∷ []);
-}
 
 pub all_taken : (old all now left : List Note) → left ≡ [] → Taking old all now left → now ≡ old ++ all
 all_taken old all now left is t = t.so_far ∙ ap (λ (l : List Note). old ++ l) (sym (append-nil t.taken) ∙ ap (λ (l : List Note). t.taken ++ l) (sym is) ∙ sym t.split)

@@ -1,16 +1,9 @@
 -- The lines as a list of queues.
-use Rattle.std.proofs.Common.{◌≡◌, ◌<◌, ◌==◌, refl, ap, sym, ◌∙◌, arith, ℕ, zero, suc, Bool, true, false, List, [], ◌∷◌, ◌++◌, length, map, get_or, set}
+use Rattle.std.proofs.Common.{◌≡◌, ◌<◌, ◌==◌, refl, ap, sym, ◌∙◌, arith, ℕ, Bool, true, false, List, [], length, map, get_or, set}
 use Rattle.std.specs.Prelude.{if◌then◌else◌}
 use Rattle.std.proofs.lemmas.Bool.{eqb-true, eqb-false}
 use Rattle.std.proofs.lemmas.List.{length-map, map-set, get_or-map, get_or-set_same, get_or-set_other, set-get_or}
 use Rattle.network.specs.Lines.{line, Changes}
-
--- one more empty line
-pub nothing_pushed : (lines : List (List ℕ)) (ns : List ℕ) → ((p : ℕ) → line lines p ≡ []) → ns ≡ [] → (p : ℕ) → line (lines ++ ns ∷ []) p ≡ []
-nothing_pushed [] ns nothing empty zero = empty
-nothing_pushed [] ns nothing empty (suc p) = refl
-nothing_pushed (l ∷ lines) ns nothing empty zero = nothing zero
-nothing_pushed (l ∷ lines) ns nothing empty (suc p) = nothing_pushed lines ns (λ q. nothing (suc q)) empty p
 
 -- a change of one line
 pub one_changed : (lines : List (List ℕ)) (place : ℕ) (ns : List ℕ) (change : List ℕ → List ℕ) → place < length lines → ns ≡ change (line lines place) → Changes lines (set lines place ns) place change

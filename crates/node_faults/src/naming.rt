@@ -1,4 +1,4 @@
-ghost use Rattle.std.specs.Prelude.{◌≡◌, ◌-◌, ◌/◌, ◌≤◌, ◌<◌, IfOk, IfErr, get_or, None, Some};
+ghost use Rattle.std.specs.Prelude.{◌≡◌, ◌-◌, ◌/◌, ◌<◌, IfOk, IfErr, get_or, None, Some};
 ghost use Rattle.tree_node.specs.TreeVersions.{levels};
 ghost use Rattle.tree_node.specs.Positions.{IsPosition};
 ghost use Rattle.tree_maps.specs.Sixteen.{form_of, children_of};

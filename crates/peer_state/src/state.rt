@@ -1,7 +1,7 @@
 ghost use Rattle.std.specs.Prelude.{◌≡◌, IsOk, OnOk, IfOk, IfErr, false, true, []};
 ghost use Rattle.leading.specs.Leaders.{new_leader};
 ghost use Rattle.step_plans.specs.Outboxes.{Grows, out_of};
-ghost use Rattle.peer_state.specs.Moves.{keeps_seal, follower, waits, timeouts, and_answers, stopped_leading, without_candidacy, without_sync, accepts_of, accepts_in, leading, left, left_answers, followed, untrusted, turned, ends_leading, turned_answers, stood, sought, waiting_phase, waiting_for};
+ghost use Rattle.peer_state.specs.Moves.{keeps_seal, follower, waits, timeouts, and_answers, stopped_leading, without_candidacy, without_sync, accepts_of, accepts_in, leading, left, left_answers, turned, ends_leading, turned_answers, stood, sought, waiting_phase, waiting_for};
 ghost use Rattle.peer_state.specs.NoAllocation.{EndsQuietly};
 ghost use Rattle.peer_state.specs.declared.state.ChangeState.TheVariants.{Settled};
 

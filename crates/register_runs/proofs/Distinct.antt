@@ -1,9 +1,9 @@
 -- Lists without duplicates.
-use Rattle.std.proofs.Common.{◌≡◌, ℕ, zero, suc, ◌+◌, ◌<◌, ◌≤◌, Bool, true, false, List, [], ◌∷◌, ◌++◌, length, get_or, take, inl, inr, ◌⊎◌, refl, sym, ap, subst, ◌∙◌, arith, eqb-true}
+use Rattle.std.proofs.Common.{◌≡◌, ℕ, zero, suc, ◌+◌, ◌<◌, Bool, true, false, List, [], ◌∷◌, ◌++◌, length, get_or, take, inl, inr, ◌⊎◌, refl, sym, ap, subst, ◌∙◌, arith, eqb-true}
 use Rattle.std.specs.Prelude.{nat_eq, not, if◌then◌else◌}
 use Rattle.std.specs.List.{list_any}
 use Rattle.std.proofs.lemmas.Bool.{eq-eqb, false≢true, true≢false, or_cases, or_left, or_right}
-use Rattle.std.proofs.lemmas.List.{take_more, take_all}
+use Rattle.std.proofs.lemmas.List.{take_more}
 use Rattle.indexmap.specs.IndexSet.{insert_key}
 use Rattle.ens_base.specs.Lists.{◌∈◌, AreDistinct}
 
@@ -73,9 +73,6 @@ module _ (keys ids : List ℕ) (n d : ℕ) (lt : n < length ids) (seen : SeenAll
     where
       apart : ¬ (get_or ids n d ∈ take n ids)
       apart h = false≢true (sym new ∙ in_any keys (get_or ids n d) (let P : List ℕ → Type 0 = λ l. get_or ids n d ∈ l in subst P (sym seen.same) h))
-
-pub seen_to_end : (keys ids : List ℕ) (n : ℕ) → length ids ≤ n → SeenAll keys ids n → AreDistinct ids
-seen_to_end keys ids n end seen = let P : List ℕ → Type 0 = AreDistinct in subst P (take_all n ids end) seen.distinct
 
 pub was_there : (r x : Bool) → r ≡ not x → r ≡ false → x ≡ true
 was_there r true e h = refl

@@ -1,9 +1,9 @@
 -- The walk decides whether the order is a run.
-use Rattle.std.proofs.Common.{◌≡◌, ◌≢◌, ℕ, ◌+◌, ◌<◌, ◌≤◌, Bool, true, false, List, [], ◌∷◌, ◌++◌, length, get_or, take, drop, map, Option, None, Some, Bor, inl, inr, refl, sym, ap, subst, ◌∙◌, arith}
+use Rattle.std.proofs.Common.{◌≡◌, ◌≢◌, ℕ, ◌+◌, ◌<◌, Bool, true, false, List, [], ◌∷◌, ◌++◌, length, get_or, take, drop, map, Option, None, Some, Bor, inl, inr, refl, sym, ap, subst, ◌∙◌, arith}
 use Rattle.ens_base.proofs.Lists.{in_left, in_right}
 use Rattle.std.specs.Prelude.{IfSome, IfNone, MatchOption, ◌↔◌, ◌==◌, IsTrue}
 use Rattle.std.proofs.lemmas.Bool.{false≢true, true≢false, eq-eqb, ne_eqb}
-use Rattle.std.proofs.lemmas.List.{take_more, take_all, append_assoc, append-nil, take-append-drop}
+use Rattle.std.proofs.lemmas.List.{take_more, append_assoc, append-nil, take-append-drop}
 use Rattle.ens_base.specs.Lists.{◌∈◌, AreDistinct}
 use Rattle.ens_base.specs.declared.epoch.Version.{Version}
 use Rattle.ens_base.specs.declared.reply.Reply.{Reply}
@@ -232,9 +232,6 @@ module _ (calls : List Call) (answers : List Answer) where
       taken = begun.taken;
       run = let Q : List ℕ → Type 0 = λ l. IsRun calls answers l in subst Q (append-nil (take (n + 1) order)) ((begun.same []).1 (not_empty new.known new.possible.items some));
     }
-
-    pub gone_to_end : (n : ℕ) → length order ≤ n → (walk : Walk) → HasGone calls answers order walk n → IsRun calls answers order
-    gone_to_end n end walk gone = let Q : List ℕ → Type 0 = λ l. IsRun calls answers l in subst Q (take_all n order end) gone.run
 
     -- an order that stops is no run
     pub stops_no_run : (n : ℕ) → StopsAt calls answers order n → ¬ (IsRun calls answers order)

@@ -1,4 +1,4 @@
-ghost use Rattle.std.specs.Prelude.{◌≡◌, ◌++◌, ◌∷◌, [], take, fold, IfOk, OnOk};
+ghost use Rattle.std.specs.Prelude.{◌≡◌, ◌++◌, ◌∷◌, [], fold, IfOk, OnOk};
 ghost use Rattle.register_runs.specs.Stamps.{with_stamp};
 ghost use Rattle.register_runs.specs.Guesses.{with_wanted, same_reply, is_new, may_be, verdict_on, left_untold, update_untold, silent, write_told, left_told, get_told, update_told, answered, learned, added, all_silent, all_answered};
 ghost use Rattle.register_runs.specs.declared.guess.Guess.TheVariants.{Untold};

@@ -3,7 +3,7 @@ ghost use Rattle.std.specs.Io.KnownBytes.{Appends};
 ghost use Rattle.ens_base.specs.Causes.{Rose};
 ghost use Rattle.ens_base.specs.declared.status.Status.{Status};
 ghost use Rattle.ens_outside.specs.Written.{AppendsFront};
-ghost use Rattle.world_model.specs.HeldStores.{Account, account};
+ghost use Rattle.world_model.specs.HeldStores.{account};
 ghost use Rattle.schedule_input.specs.Reading.{WasTakenTo};
 ghost use Rattle.schedule_text.specs.Spelling.{IsSchedule};
 ghost use Rattle.replay.specs.Jobs.{EndsSo, HasRead, IsRunnable, Prints, PrintsWith, RanOut};

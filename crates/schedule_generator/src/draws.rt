@@ -1,4 +1,4 @@
-ghost use Rattle.std.specs.Prelude.{◌≡◌, ◌<◌, ◌≤◌, IfOk};
+ghost use Rattle.std.specs.Prelude.{◌≡◌, ◌<◌, IfOk};
 ghost use Rattle.schedule_generator.specs.Drawing.{draw as drawing, draw_bytes as drawing_bytes, moved};
 ghost use Rattle.schedule_generator.specs.Generated.{draw_key as drawing_key, draw_value as drawing_value, draw_choice as drawing_choice, draw_command as drawing_command};
 

@@ -1,4 +1,4 @@
-ghost use Rattle.std.specs.Prelude.{◌≡◌, ◌++◌, ◌∷◌, [], cond, OnOk, IfOk, string_bytes};
+ghost use Rattle.std.specs.Prelude.{◌≡◌, ◌++◌, ◌∷◌, [], OnOk, IfOk, string_bytes};
 ghost use Rattle.std.specs.List.{filter};
 ghost use Rattle.ens_base.specs.PeerSet.{holds};
 ghost use Rattle.schedule_words.specs.Spelling.{member_words};

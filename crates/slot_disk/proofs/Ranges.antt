@@ -2,7 +2,7 @@
 use Rattle.std.proofs.Common.{◌≡◌, ◌⊎◌, inl, inr, ℕ, ◌+◌, ◌-◌, ◌<◌, ◌≤◌, min, List, [], ◌∷◌, ◌++◌, length, take, drop, replicate, Option, Bool, true, false, refl, sym, ◌∙◌, ap, subst, arith, length-append, append_assoc}
 use Rattle.std.proofs.lemmas.List.{drop-drop, drop_at, drop_all, take_at, take-append-drop, append-nil, length-take}
 use Rattle.std.proofs.lemmas.Bool.{cases_lt}
-use Rattle.slot_disk.specs.Crash.{written, Torn, LeavesOnly, IsOn, SeenIn}
+use Rattle.slot_disk.specs.Crash.{written, Torn, LeavesOnly, IsOn}
 use Rattle.slot_disk.specs.Slots.{start, shut, shut_at, body}
 use Rattle.slot_disk.specs.Saving.{with_gate_closed}
 use Rattle.slot_disk.specs.Outcomes.{length-front, torn_whole}
@@ -54,9 +54,6 @@ module _ {D : Type 0} (seen : D → Option (List ℕ)) (may_leave : D → List �
     each = λ c left. subst P (sym (on.only c (only_now disk c left))) holds;
     before = λ t c le left. inl left;
   }
-
-  pub still_seen_in : (disk : D) (file : List ℕ) (P : List ℕ → Type 0) → IsOn seen may_leave disk file → P file → SeenIn seen disk P
-  still_seen_in disk file P on holds = (file, on.told, holds)
 
 -- a write behind the front of a file
 written_behind : (front rest xs : List ℕ) (at : ℕ) → length front ≡ at → written (front ++ rest) at xs ≡ (front ++ xs) ++ drop (length xs) rest

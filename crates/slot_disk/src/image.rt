@@ -1,4 +1,4 @@
-ghost use Rattle.std.specs.Prelude.{◌≡◌, ◌-◌, ◌≤◌, ◌+◌, ◌++◌, List, ℕ, length, take, drop, replicate, OnOk, IfOk};
+ghost use Rattle.std.specs.Prelude.{◌≡◌, ◌-◌, ◌≤◌, length, take, drop, OnOk, IfOk};
 ghost use Rattle.slot_disk.specs.Crash.{written};
 ghost use Rattle.slot_disk.specs.MemDisks.{history};
 ghost use Rattle.slot_disk.specs.Steps.{deed_of, Leaves};

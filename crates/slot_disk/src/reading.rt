@@ -1,5 +1,4 @@
-ghost use Rattle.std.specs.Prelude.{◌≡◌, ◌∷◌, [], List, ℕ, Option, Some, None, length, take, drop, IfOk, OnOk, IfSome, IfErr, option_map, ◌≤◌, ◌-◌};
-ghost use Rattle.ens_base.specs.Causes.{Rose};
+ghost use Rattle.std.specs.Prelude.{◌≡◌, [], List, ℕ, Option, Some, None, take, IfOk, OnOk, IfErr, option_map, ◌≤◌, ◌-◌};
 ghost use Rattle.slot_disk.specs.Crash.{Told, Stay, StaysSeen, LeavesOnly, IsOn};
 ghost use Rattle.slot_disk.specs.Faults.{CountsFaults};
 ghost use Rattle.slot_disk.specs.Slots.{slot, shut, slot_at, shut_at, held_slot, newer};

@@ -1,5 +1,4 @@
-ghost use Rattle.std.specs.Prelude.{◌≡◌, ◌⊎◌, ◌↔◌, ◌+◌, ◌-◌, ◌^◌, ◌<◌, ◌≤◌, List, ℕ, Option, Some, None, length, IfOk, IfErr, OnOk, OnErr, IsErrOf, false, option_map};
-ghost use Rattle.ens_base.specs.Causes.{Rose};
+ghost use Rattle.std.specs.Prelude.{◌≡◌, ◌⊎◌, ◌+◌, ◌-◌, ◌^◌, ◌<◌, ◌≤◌, List, ℕ, Option, Some, None, length, IfOk, IfErr, OnOk, OnErr, IsErrOf, false, option_map};
 ghost use Rattle.slot_disk.specs.Crash.{written, Torn, Told, StaysSeen, LeavesOnly, SeenIn, IsOn};
 ghost use Rattle.slot_disk.specs.Slots.{start, open_slot, record_in, last_serial, next_slot, other, IsOldOrNew, newer, held_slot, current, shut_at};
 ghost use Rattle.slot_disk.specs.Saving.{IsReadError, UnlessFailed};

@@ -1,4 +1,4 @@
-ghost use Rattle.std.specs.Prelude.{◌≡◌, ◌+◌, List, ℕ, length, OnOk, [], ◌∷◌};
+ghost use Rattle.std.specs.Prelude.{◌≡◌, ◌+◌, List, ℕ, length, OnOk, ◌∷◌};
 ghost use Rattle.slot_disk.specs.Crash.{written, Torn, LeavesOnly, IsOn, SeenIn};
 ghost use Rattle.slot_disk.specs.Faults.{CountsFaults};
 ghost use Rattle.slot_disk.specs.Slots.{start, current, IsOldOrNew, record_of, IsSaved};

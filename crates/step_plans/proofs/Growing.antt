@@ -1,16 +1,12 @@
 -- Outboxes that grow.
-use Rattle.std.proofs.Common.{◌≡◌, ◌≤◌, ◌++◌, ◌∙◌, Bool, List, length, take, refl, sym, ap, arith}
-use Rattle.std.proofs.lemmas.List.{take-append-le, take-take, take_all, length-take}
+use Rattle.std.proofs.Common.{◌≡◌, ◌≤◌, ◌∙◌, Bool, List, length, take, refl, sym, ap, arith}
+use Rattle.std.proofs.lemmas.List.{take-take, take_all, length-take}
 use Rattle.step_plans.specs.Outboxes.{Grows, IsMark, out_of}
 use Rattle.step_plans.specs.Plans.{Out}
 use Rattle.leader_words.specs.declared.out.AnswerOut.{AnswerOut}
 use Rattle.step_plans.specs.declared.outbox.Mark.{Mark}
 use Rattle.step_plans.specs.declared.outbox.Outbox.{Outbox}
 use Rattle.leader_words.specs.declared.out.Outgoing.{Outgoing}
-
--- what is added to a list leaves its beginning
-pub begins_more : {A : Type 0} (xs more ys : List A) → ys ≡ xs ++ more → take (length xs) ys ≡ xs
-begins_more xs more ys is = rw is (take-append-le (length xs) xs more (omega arith) ∙ take_all (length xs) xs (omega arith))
 
 pub begins_same : {A : Type 0} (xs ys : List A) → ys ≡ xs → take (length xs) ys ≡ xs
 begins_same xs ys is = rw is (take_all (length xs) xs (omega arith))
@@ -20,14 +16,6 @@ shorter xs ys is = omega (arith, length-take (length xs) ys, ap length is)
 
 pub begins_after : {A : Type 0} (xs ys zs : List A) → take (length xs) ys ≡ xs → take (length ys) zs ≡ ys → take (length xs) zs ≡ xs
 begins_after xs ys zs first then = sym (take-take (length xs) (length ys) zs (shorter xs ys first)) ∙ ap (take (length xs)) then ∙ first
-
-pub grows_not : (o : Outbox) → Grows o o
-grows_not o = record {
-  sends = begins_same o.sends.items o.sends.items refl;
-  answers = begins_same o.answers.items o.answers.items refl;
-  changes = begins_same o.changes.items o.changes.items refl;
-  capacity = omega arith;
-}
 
 pub grows_after : (o p q : Outbox) → Grows o p → Grows p q → Grows o q
 grows_after o p q first then = record {

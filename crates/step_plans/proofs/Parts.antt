@@ -1,14 +1,11 @@
 -- Parts of a step, one after another.
-use Rattle.std.proofs.Common.{◌≡◌, List, [], ◌∷◌, ◌++◌, Result, Ok, Err, refl, inl, inr}
+use Rattle.std.proofs.Common.{List, [], ◌∷◌, ◌++◌, Result, Ok, Err, refl, inl, inr}
 use Rattle.std.proofs.lemmas.List.{append_assoc, append-nil}
 use Rattle.leader_words.specs.RegisterModel.{Note}
 use Rattle.step_plans.specs.Calls.{Call, AnswerOf, Answers}
-use Rattle.step_plans.specs.Outboxes.{out_of, HasNotesAlone}
-use Rattle.step_plans.specs.Plans.{Plan, Done, Say, Ask, Out, nothing, Rest, Part, Spot, Ending, Finished, Stopped, Runs, Did, asked, noted}
-use Rattle.step_plans.specs.Steps.{Ended}
+use Rattle.step_plans.specs.Plans.{Plan, Done, Say, Ask, Out, Rest, Part, Spot, Ending, Stopped, Runs, Did, asked, noted}
 use Rattle.step_plans.specs.declared.error.PeerError.{PeerError}
 use Rattle.step_plans.specs.declared.error.PeerError.TheVariants.{Memory}
-use Rattle.step_plans.specs.declared.outbox.Outbox.{Outbox}
 
 module _ {X P : Type 0} (does : P → (call : Call) → AnswerOf call → P → Type 0) (refuses : P → Call → PeerError → P → Type 0) where
   -- each plan may be cut at once
@@ -36,15 +33,3 @@ module _ {X P : Type 0} (does : P → (call : Call) → AnswerOf call → P → 
       → Did does refuses q b r c → Did does refuses p a r c
   did_after p q a b c (Ok v) step did = λ next e end ls h. step next e end ls (did next e end ls h)
   did_after p q a b c (Err error) step did = λ next. step next (Stopped error) c.stores c.notes (did next)
-
-  -- a part that is a whole step
-  pub whole_ends : {A : Type 0} (plan : Part X A) (a b : Spot X P) (r : Result A PeerError) → a.out ≡ nothing → Did does refuses plan a r b
-      → Ended does refuses (plan a.state nothing (λ u y o. Done y o)) a.stores a.notes r b.state b.out b.stores b.notes
-  whole_ends plan a b (Ok u) none did = rw (← none) (
-    did (λ v y o. Done y o) (Finished b.state b.out) b.stores b.notes (inr (refl, refl, refl)),
-    did (λ v y o. Done y o) (Stopped Memory) b.stores b.notes (inl (refl, refl, refl)),
-  )
-  whole_ends plan a b (Err error) none did = rw (← none) (did (λ v y o. Done y o))
-
-pub empty_out : (o : Outbox) → HasNotesAlone o → out_of o ≡ nothing
-empty_out o e = rw e.sends (rw e.answers (rw e.changes refl))

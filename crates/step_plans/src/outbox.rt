@@ -1,4 +1,4 @@
-ghost use Rattle.std.specs.Prelude.{◌≡◌, ◌≢◌, ◌+◌, ◌≤◌, ℕ, true, ◌++◌, ◌∷◌, [], IsOk, OnOk, OnErr, IfErr, IfSome, IfNone, length};
+ghost use Rattle.std.specs.Prelude.{◌≡◌, ◌≢◌, ◌+◌, ◌≤◌, ℕ, true, ◌++◌, ◌∷◌, [], IsOk, OnOk, OnErr, IfErr, IfSome, IfNone};
 ghost use Rattle.ens_base.specs.PeerSet.{holds};
 ghost use Rattle.ens_base.specs.View.{IsPeer};
 ghost use Rattle.phase_rows.specs.Peers.{alone as alone_set};

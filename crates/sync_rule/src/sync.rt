@@ -1,7 +1,7 @@
 ghost use Rattle.std.specs.Prelude.{◌≡◌, [], IfOk, OnOk, OnErr};
 ghost use Rattle.tree_node.specs.Entries.{AreAbove};
 ghost use Rattle.joint_views.specs.Quorums.{is_majority, has_all};
-ghost use Rattle.sync_rule.specs.Merges.{merged, with_entries};
+ghost use Rattle.sync_rule.specs.Merges.{merged};
 ghost use Rattle.sync_rule.specs.Syncs.{begun, is_clean, is_source, is_trusted_source, is_own_source, has_finished, is_trusted, is_awaited, with_source, all_entries, is_over, outcome_of, MayBeBuilt, needs_build as is_build_needed, same_entries};
 
 use crate::error::SyncError;

@@ -18,10 +18,6 @@ use Rattle.synctree.proofs.Exits.{DidOutside, after, cut_off}
 
 module _ {N H : Type 0} (may : N → (call : NodeCall) → NodeAnswer call → N → Type 0) (loses : N → NodeCall → StoreError → N → Type 0) (top : N → Option (Option (List ℕ))) (faults : N → ℕ)
     (kept : H → Option Book) (clashes fulls : H → ℕ) (F : Form) where
-  pub find_segment : (h : ℕ) (at : Position) (digest key : List ℕ) (s t : N × H) (r : Result (Option Entry) TreeError) → h ≡ 0
-      → DidOutside may loses top faults kept clashes fulls (find F 0 at digest key) s r t → DidOutside may loses top faults kept clashes fulls (find F h at digest key) s r t
-  find_segment h at digest key s t r z d = subst (λ (n : ℕ). DidOutside may loses top faults kept clashes fulls (find F n at digest key) s r t) (sym z) d
-
   -- an entry is found under the child that its key names
   find_is : (b : ℕ) (at : Position) (digest key : List ℕ)
       → find F (suc b) at digest key ≡ (child_name F at (F.digit key at.level) digest >>= onward None (λ below. find F b (child F at (F.digit key at.level)) below key))

@@ -62,10 +62,6 @@ listed_ascends : (low : List ℕ) (es : List Entry) → AreListed IsNext (λ e. 
 listed_ascends low [] a = tt
 listed_ascends low (e ∷ es) a = (listed_below e.key es a.1, listed_ascends e.key es a.1)
 
-above_start : (es : List Entry) → ((low : List ℕ) (first : Entry) (rest : List Entry) → es ≡ first ∷ rest → 1 ≤ length first.key) → Ascends es → AreAbove [] es
-above_start [] f a = tt
-above_start (e ∷ es) f a = (key_above e.key (f [] e es refl), above_of e.key es a.0 a.1)
-
 pub put_above : (e : Entry) (es : List Entry) → 1 ≤ length e.key → AreEntries es → AreAbove [] (put e es)
 put_above e [] l a = (key_above e.key l, tt)
 put_above e (x ∷ es) l a = by (bytes_cmp e.key x.key) refl

@@ -1,4 +1,4 @@
-ghost use Rattle.std.specs.Prelude.{◌≡◌, ◌<◌, Some, None, get_or, length, IfOk};
+ghost use Rattle.std.specs.Prelude.{◌<◌, Some, None, get_or, IfOk};
 ghost use Rattle.std.specs.Option.{option_map};
 ghost use Rattle.tree_maps.specs.TreeNode.{AreEntries, IsPosition, inner_of, segment_of};
 ghost use Rattle.tree_maps.specs.Entries.{lookup as found};

@@ -1,7 +1,6 @@
-ghost use Rattle.std.specs.Prelude.{◌≡◌, ◌≤◌, ◌<◌, ◌^◌, IfOk, IfErr, length, None, Some, set, slice_get, get_or, if◌then◌else◌};
-ghost use Rattle.md5.specs.Md5.{md5};
+ghost use Rattle.std.specs.Prelude.{◌≡◌, ◌≤◌, ◌<◌, IfOk, IfErr, length, None, Some, set, slice_get, get_or, if◌then◌else◌};
 ghost use Rattle.tree_maps.specs.TreeNode.{TreeVersion, Two, levels, IsPosition};
-ghost use Rattle.tree_maps.specs.Forms.{child as child_of, IsPlace};
+ghost use Rattle.tree_maps.specs.Forms.{child as child_of};
 ghost use Rattle.tree_maps.specs.Sixteen.{form_of, children_of, mask_of, digests_of, nibble};
 ghost use Rattle.synctree.specs.declared.error.TreeError.TheVariants.{Memory};
 

@@ -1,4 +1,3 @@
-ghost use Rattle.std.specs.Prelude.{◌≡◌};
 ghost use Rattle.tree_maps.specs.Forms.{root};
 ghost use Rattle.synctree.specs.Answers.{Makes, Spells};
 ghost use Rattle.synctree.specs.Outsides.{outside_does, outside_refuses};

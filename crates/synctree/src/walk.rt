@@ -1,12 +1,11 @@
-ghost use Rattle.std.specs.Prelude.{◌≡◌, ◌≤◌, ◌<◌, ◌^◌, ℕ, List, [], ◌∷◌, Option, None, Some, IfOk, length, replicate};
+ghost use Rattle.std.specs.Prelude.{◌≡◌, ◌<◌, Option, None, Some, IfOk};
 ghost use Rattle.md5.specs.Md5.{md5};
-ghost use Rattle.tree_maps.specs.Entries.{put as put_in, lookup as found};
 ghost use Rattle.tree_maps.specs.TreeNode.{AreEntries, IsPosition};
 ghost use Rattle.tree_maps.specs.Forms.{IsPlace};
 ghost use Rattle.tree_maps.specs.Sixteen.{form_of};
 ghost use Rattle.synctree.specs.Outsides.{outside_does, outside_refuses};
 ghost use Rattle.synctree.specs.Plans.{Did};
-ghost use Rattle.synctree.specs.Walks.{fetch as fetch_plan, open_node, find as find_plan, reach, store as store_plan, enter as enter_plan};
+ghost use Rattle.synctree.specs.Walks.{fetch as fetch_plan, open_node, find as find_plan};
 ghost use Rattle.synctree.specs.Trees.{get_plan};
 ghost use Rattle.synctree.specs.Nodes.{child_name as child_name_plan};
 

@@ -1,12 +1,11 @@
 -- The grammars of nodes.
-use Rattle.std.proofs.Common.{◌≡◌, ℕ, ◌^◌, ◌<◌, Bool, true, false, cond, eqb, List, ◌∷◌, ◌++◌, ◌∙◌, get_or, length, drop, Result, Ok, Err, refl, sym, ap, subst, arith, eq-eqb}
+use Rattle.std.proofs.Common.{◌≡◌, ℕ, ◌^◌, ◌<◌, Bool, true, false, cond, eqb, List, ◌∷◌, ◌++◌, ◌∙◌, get_or, length, drop, Result, Ok, Err, refl, sym, ap, subst, eq-eqb}
 use Rattle.std.specs.Prelude.{IfOk, count_ones}
 use Rattle.std.proofs.lemmas.Bool.{eqb-true}
 use Rattle.byteorder.specs.Endian.{big_bytes}
 use Rattle.ens_fields.specs.declared.field_error.FieldError.{FieldError}
 use Rattle.ens_fields.specs.declared.field_error.FieldError.TheVariants as fields
 use Rattle.ens_base.specs.Limits.{IsBytes}
-use Rattle.ens_fields.specs.Reading.{Gives}
 use Rattle.ens_fields.specs.Grammar.{IsGrammar}
 use Rattle.ens_fields.proofs.GrammarLaws.{Reader, valid_as, field_then, field_last, tested, checked, right, ok_is, whole_found, whole_again, apart}
 use Rattle.ens_fields.proofs.NumberLaws.{byte_grammar, u16_grammar, u32_grammar}
@@ -23,18 +22,6 @@ use Rattle.tree_node.specs.Entries.{AreEntries, entries_spelling, AreDigests, di
 use Rattle.tree_node.specs.Nodes.{IsInner, inner_spelling, IsSegment, segment_spelling, ended, ordered, asked_at, inner_fields_at, inner_at, segment_fields_at, segment_at, all_of, inner_of, segment_of, Answers}
 use Rattle.tree_node.proofs.PositionLaws.{any_grammar, position_fits, from_same, to_same}
 use Rattle.tree_node.proofs.EntryLaws.{entries_grammar, digests_grammar}
-
-pub ended_answers : {X : Type 0} (r read : Result X FieldError) → Gives r read → Answers (ended r) (ended read)
-ended_answers (Ok x) read h = rw h refl
-ended_answers (Err (fields.Short at)) read h = rw h refl
-ended_answers (Err (fields.Rule at)) read h = rw h refl
-ended_answers (Err fields.Memory) read h = tt
-
-pub ordered_answers : {X : Type 0} (r read : Result X FieldError) → Gives r read → Answers (ordered r) (ordered read)
-ordered_answers (Ok x) read h = rw h refl
-ordered_answers (Err (fields.Short at)) read h = rw h refl
-ordered_answers (Err (fields.Rule at)) read h = rw h refl
-ordered_answers (Err fields.Memory) read h = tt
 
 ended_ok : {X : Type 0} (r : Result X FieldError) (x : X) → ended r ≡ right NodeError x → r ≡ Ok x
 ended_ok (Ok y) x e = ap (λ z. Ok z) (ok_is NodeError y x e)

@@ -1,9 +1,9 @@
 -- The levels and the tags of the versions of a tree.
-use Rattle.std.proofs.Common.{◌≡◌, ◌*◌, ◌<◌, ◌≤◌, refl, arith}
+use Rattle.std.proofs.Common.{◌≡◌, ◌<◌, ◌≤◌, refl, arith}
 use Rattle.tree_node.specs.declared.position.Position.{Position}
 use Rattle.tree_node.specs.declared.version.TreeVersion.{TreeVersion}
 use Rattle.tree_node.specs.declared.version.TreeVersion.TheVariants.{One, Two}
-use Rattle.tree_node.specs.TreeVersions.{levels, bits, inner_tag, segment_tag}
+use Rattle.tree_node.specs.TreeVersions.{levels, inner_tag, segment_tag}
 use Rattle.tree_node.specs.Positions.{IsPosition}
 
 pub levels_few : (v : TreeVersion) → levels v ≤ 5
@@ -13,11 +13,6 @@ levels_few Two = omega arith
 pub levels_some : (v : TreeVersion) → 0 < levels v
 levels_some One = omega arith
 levels_some Two = omega arith
-
--- four bits for each level
-pub bits_are : (v : TreeVersion) → bits v ≡ 4 * levels v
-bits_are One = refl
-bits_are Two = refl
 
 -- the deepest tree has the positions of each other
 pub position_deepest : (v : TreeVersion) (p : Position) → IsPosition v p → IsPosition Two p

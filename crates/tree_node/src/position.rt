@@ -2,7 +2,7 @@ ghost use Rattle.std.specs.Prelude.{◌≡◌, ◌≤◌, ◌++◌, length, IfOk
 ghost use Rattle.std.specs.Prelude.{◌^◌};
 ghost use Rattle.ens_fields.specs.Faults.{BreaksNoRule};
 ghost use Rattle.tree_node.specs.TreeVersions.{levels};
-ghost use Rattle.tree_node.specs.Positions.{IsPosition, level_at, index_at, position_at, any_position_at, position_spelling};
+ghost use Rattle.tree_node.specs.Positions.{level_at, index_at, position_at, any_position_at, position_spelling};
 
 use crate::version::TreeVersion;
 use ens_fields::{FieldError, take_u8, take_u32};

@@ -1,10 +1,9 @@
-ghost use Rattle.std.specs.Prelude.{◌≡◌, ◌≤◌, ℕ, length, count_ones, Ok, IfOk};
-ghost use Rattle.ens_fields.specs.Numbers.{byte_at, number_at};
+ghost use Rattle.std.specs.Prelude.{◌≡◌, ◌≤◌, length, count_ones, Ok, IfOk};
 ghost use Rattle.ens_fields.specs.Faults.{BreaksNoRule};
 ghost use Rattle.tree_node.specs.declared.node.InnerNode.{InnerNode};
 ghost use Rattle.tree_node.specs.declared.node.Segment.{Segment};
 ghost use Rattle.tree_node.specs.TreeVersions.{inner_tag, segment_tag};
-ghost use Rattle.tree_node.specs.Positions.{IsPosition, any_position_at};
+ghost use Rattle.tree_node.specs.Positions.{IsPosition};
 ghost use Rattle.tree_node.specs.Entries.{entries_at, digests_at};
 ghost use Rattle.tree_node.specs.Nodes.{IsInner, inner_spelling, IsSegment, segment_spelling, ended as unruled, ordered as by_order, asked_at, inner_fields_at, inner_at, segment_fields_at, segment_at, all_of, inner_of, segment_of, Answers};
 

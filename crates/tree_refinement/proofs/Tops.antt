@@ -21,7 +21,6 @@ use Rattle.tree_maps.specs.Forms.{root}
 use Rattle.tree_maps.specs.Maps.{IsNode, Stands}
 use Rattle.tree_maps.specs.Sixteen.{form_of}
 use Rattle.tree_maps.proofs.Formats.{form_laws}
-use Rattle.tree_maps.proofs.Unique.{some_once}
 use Rattle.node_faults.specs.TreeRepair.{rebuild_plan}
 use Rattle.tree_verify.specs.Levels.{scan_plan}
 use Rattle.world_stores.specs.Nodes.{Nodes, top_of, reverted}
@@ -43,10 +42,6 @@ use Rattle.tree_refinement.proofs.Whole.{get_only, position_only, scan_only}
 -- a digest that names a map goes on naming it as more is hashed
 pub named_behind : (hashed more : List (List ℕ)) (digest : List ℕ) (m : List Entry) → AreAmong hashed more → IsNamed hashed digest m → IsNamed more digest m
 named_behind hashed more digest m among named = record { tree = named.tree; stands = named.stands; texts = λ x n. among x (named.texts x n) }
-
--- the root of a tree names the map that the tree shows
-pub shows_named : (h : Held) (m : List Entry) (digest : List ℕ) → Shows h m → h.stores.tree.top ≡ Some digest → IsNamed h.hashed digest m
-shows_named h m digest shows is = record { tree = h.stores.tree.version; stands = subst (λ (d : List ℕ). Stands (form_in h) d m) (some_once h.stores.tree.top shows.digest digest shows.top is) shows.stands; texts = shows.texts }
 
 -- and a tree shows the map that its root names, if it is opened in the version of the root
 named_shows : (h : Held) (m : List Entry) (digest : List ℕ) → h.stores.tree.top ≡ Some digest → (named : IsNamed h.hashed digest m) → named.tree ≡ h.stores.tree.version → Shows h m

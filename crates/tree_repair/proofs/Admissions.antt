@@ -41,10 +41,6 @@ module _ {H : Type 0} (kept : H → Option Book) (clashes fulls : H → ℕ) whe
   admits_then xs ys s u t (Ok x) a b = admitted_append xs ys s u t a b
   admits_then xs ys s u t (Err e) a b = rejected_then xs ys s u t e a b
 
-  -- one string was admitted, or not
-  pub admitted_one : (x : List ℕ) (s t : H) → Admits {T = Unit {0}} x (kept s) (kept t) (clashes s) (clashes t) (fulls s) (fulls t) (Ok tt) → Admitted kept clashes fulls (x ∷ []) s t
-  admitted_one x s t (k, c, f) = (t, k, c, f, refl)
-
   pub rejected_one : (x : List ℕ) (s t : H) (e : HashError) → Admits {T = Unit {0}} x (kept s) (kept t) (clashes s) (clashes t) (fulls s) (fulls t) (Err e) → Rejected kept clashes fulls (x ∷ []) s e t
   rejected_one x s t e (k, r) = inr (inl (k, r))
 

@@ -384,9 +384,6 @@ pub above_of : (l : ℕ) (is above : List ℕ) → 0 < l → above ≡ dedup nat
 above_of zero is above some e = absurd (omega arith)
 above_of (suc l) is above some e = e
 
-pub root_within : (l : ℕ) (is : List ℕ) → l ≡ 0 → All (λ (i : ℕ). i < 16 * 16 ^ l) is → All (λ (i : ℕ). i < 16) is
-root_within l is e h = subst (λ (n : ℕ). All (λ (i : ℕ). i < 16 * 16 ^ n) is) e h
-
 pub run_filled : (is more : List ℕ) (names rest : List (Option (List ℕ))) (r : Run) → more ≡ is → rest ≡ names → length names ≡ length is → IsRun (map (λ i. i / 16) is) r
     → filled 16 (replicate 16 None) (take (r.end - r.start) (drop r.start more)) (take (r.end - r.start) (drop r.start rest)) ≡ children_of 16 r.number is names
 run_filled is more names rest r e f long run = (λ j. filled 16 (replicate 16 None) (take (r.end - r.start) (drop r.start (e j))) (take (r.end - r.start) (drop r.start (f j)))) ∙ run_children 16 is names r long run

@@ -49,11 +49,6 @@ pub append_nil : {A : Type 0} (xs : List A) → xs ++ [] ≡ xs
 append_nil [] = refl
 append_nil (x ∷ xs) = ap (λ ys. x ∷ ys) (append_nil xs)
 
-pub somes_append : {A : Type 0} (xs ys : List (Option A)) → somes (xs ++ ys) ≡ somes xs ++ somes ys
-somes_append [] ys = refl
-somes_append (None ∷ xs) ys = somes_append xs ys
-somes_append (Some x ∷ xs) ys = ap (λ zs. x ∷ zs) (somes_append xs ys)
-
 pub somes_cons : {A : Type 0} (x : Option A) (xs : List (Option A)) → somes (x ∷ xs) ≡ somes (x ∷ []) ++ somes xs
 somes_cons None xs = refl
 somes_cons (Some x) xs = refl

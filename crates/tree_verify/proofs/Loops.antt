@@ -36,10 +36,6 @@ module _ {S : Type 0} (does : S → (call : Call) → AnswerOf call → S → Ty
     abbrev pub GoesOn : List A → List A → List B → S → S → Type 0
     GoesOn all rest done s u = (r : Result (List B) TreeError) (t : S) → Did does refuses (for_each p rest) u r t → Did does refuses (for_each p all) s (joined done r) t
 
-    pub goes_start : (all : List A) (s : S) → GoesOn all all [] s s
-    goes_start all s (Ok ys) t h = h
-    goes_start all s (Err e) t h = h
-
     pub goes_next : (all rest : List A) (done : List B) (x : A) (y : B) (s u v : S) → GoesOn all (x ∷ rest) done s u → Did does refuses (p x) u (Ok y) v → GoesOn all rest (done ++ y ∷ []) s v
     goes_next all rest done x y s u v k d (Ok ys) t h = subst (λ (zs : List B). Did does refuses (for_each p all) s (Ok zs) t) (sym (append_assoc done (y ∷ []) ys))
         (k (Ok (y ∷ ys)) t (did_then does refuses (p x) (λ z. for_each p rest >>= (λ zs. Done (z ∷ zs))) u v t y (Ok (y ∷ ys)) d (did_then does refuses (for_each p rest) (λ zs. Done (y ∷ zs)) v t t ys (Ok (y ∷ ys)) h ([], (refl, refl, refl)))))

@@ -39,15 +39,6 @@ opened_is node_at (Some d) found read bytes b is some same test = rw (some, same
     by true e = refl
     by false e = absurd cc
 
-pub not_opened : {A : Type 0} (node_at : List ℕ → Option A) (named found read : Option (List ℕ)) → found ≡ digest_if read → agree named found ≡ false → verified node_at named read ≡ None
-not_opened node_at None found read is test = refl
-not_opened node_at (Some d) found None is test = refl
-not_opened node_at (Some d) found (Some bytes) is test = by (same_bytes (md5 bytes) d) (subst (λ (q : Option (List ℕ)). agree (Some d) q ≡ false) is test)
-  where
-    by : (t : Bool) → t ≡ false → cond t (node_at bytes) None ≡ None
-    by true e = absurd cc
-    by false e = refl
-
 pub inner_made : (v : TreeVersion) (at : Position) (named found read : Option (List ℕ)) (bytes b : List ℕ) (r : Result (Option (List (Option (List ℕ)))) TreeError) → found ≡ digest_if read → read ≡ Some bytes → b ≡ bytes → agree named found ≡ true → Makes r (children_in (inner_of v at b)) → Makes r (verified ((form_of v).inner_at at) named read)
 inner_made v at named found read bytes b r is some same test m = subst (λ x. Makes r x) (sym (opened_is ((form_of v).inner_at at) named found read bytes b is some same test ∙ inner_is v at b)) m
 

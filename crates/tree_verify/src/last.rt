@@ -1,4 +1,4 @@
-ghost use Rattle.std.specs.Prelude.{◌≡◌, ◌++◌, ◌∷◌, [], length, map, IfOk, IfErr, OnOk};
+ghost use Rattle.std.specs.Prelude.{◌≡◌, ◌++◌, length, map, IfErr, OnOk};
 ghost use Rattle.tree_node.specs.Positions.{IsPosition};
 ghost use Rattle.tree_maps.specs.Sixteen.{form_of};
 ghost use Rattle.synctree.specs.Answers.{Makes};

@@ -1,5 +1,5 @@
 -- What is preserved from one state to each later one.
-use Rattle.std.proofs.Common.{◌≡◌, ℕ, ◌≤◌, true, List, [], ◌∷◌, arith, refl, inl, inr, ◌∙◌, le_trans}
+use Rattle.std.proofs.Common.{◌≡◌, ℕ, ◌≤◌, true, List, ◌∷◌, arith, refl, inl, inr, ◌∙◌, le_trans}
 use Rattle.std.proofs.lemmas.Bool.Decides.{nat_tests}
 use Rattle.election_laws.proofs.Epochs.{not_both}
 use Rattle.election_laws.proofs.Rising.{step_stays, stays_same, stays_then}
@@ -7,7 +7,7 @@ use Rattle.version_laws.proofs.Maps.{put_other}
 use Rattle.version_laws.proofs.Dead.{dead_stays}
 use Rattle.version_laws.specs.Versions.{VersionsStay}
 use Rattle.abstract_protocol.specs.Objects.{Map, Objects, epoch_of, floor_after, install, IsGenuine}
-use Rattle.abstract_protocol.specs.Protocol.{State, Step, Begin, Ask, Raise, Elect, Accept, Commit, Adopt, Write, Acknowledge, Install, EndSync, Propose, Settle, Note, Answer, Lose, Revert, happens, objects_after, MayDo, IsRun, state_after, after, MayAll}
+use Rattle.abstract_protocol.specs.Protocol.{Step, Begin, Ask, Raise, Elect, Accept, Commit, Adopt, Write, Acknowledge, Install, EndSync, Propose, Settle, Note, Answer, Lose, Revert, objects_after, MayDo, IsRun, state_after}
 
 raise_falls : (o : Objects) (p b q d : ℕ) (k : List ℕ) → o.ledger.ballot p ≤ b → d ≤ o.ledger.ballot q → floor_after o p q d k ≤ o.floor q d k
 raise_falls o p b q d k may l = grind (arith, nat_tests)
@@ -111,10 +111,6 @@ genuine_rises o t stay d e k v l (inr a) = inr (stay.proposed v a.0, stay.key v 
 
 pub genuine_stays : (o t : Objects) → VersionsStay o t → (d : ℕ) (k : List ℕ) (v : ℕ) → IsGenuine o d k v → IsGenuine t d k v
 genuine_stays o t stay d k v a = genuine_rises o t stay d d k v (omega arith) a
-
-pub versions_after : (s : State) (steps : List Step) → MayAll s steps → VersionsStay s.objects (after s steps).objects
-versions_after s [] may = versions_same s.objects
-versions_after s (e ∷ es) may = versions_then s.objects (happens s e).objects (after (happens s e) es).objects (versions_step s.objects e may.0.0) (versions_after (happens s e) es may.1)
 
 pub run_versions_stay : (view : List ℕ) (steps : List Step) (step : Step) → IsRun view (step ∷ steps) → VersionsStay (state_after view steps).objects (state_after view (step ∷ steps)).objects
 run_versions_stay view steps step run = versions_step (state_after view steps).objects step run.1.0

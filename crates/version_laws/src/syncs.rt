@@ -1,4 +1,4 @@
-ghost use Rattle.std.specs.Prelude.{◌≡◌, ℕ, Bool, true, List};
+ghost use Rattle.std.specs.Prelude.{◌≡◌, ℕ, Bool, true};
 ghost use Rattle.ens_base.specs.Lists.{◌∈◌};
 ghost use Rattle.ens_base.specs.Views.{last_view};
 ghost use Rattle.joint_views.specs.Quorums.{is_majority};

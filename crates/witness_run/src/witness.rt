@@ -1,4 +1,4 @@
-ghost use Rattle.std.specs.Prelude.{ℕ, List, [], ◌∷◌};
+ghost use Rattle.std.specs.Prelude.{List, [], ◌∷◌};
 ghost use Rattle.abstract_protocol.specs.Protocol.{Step, IsRun, state_after};
 ghost use Rattle.witness_run.specs.Shown.{ShowsAll};
 ghost use Rattle.witness_run.specs.Guarded.{AcceptanceMatters, BallotMatters, PromisesMatter, QuorumMatters, OldViewMatters};

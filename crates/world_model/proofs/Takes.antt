@@ -16,7 +16,6 @@ use Rattle.std.proofs.lemmas.Option.{none-some, same_Some}
 use Rattle.std.proofs.lemmas.List.Elements.{All-nil}
 use Rattle.peer_state.specs.declared.event.Event.{Event}
 use Rattle.world_spec.proofs.Determined.{step_taken, step_stopped, start_taken, start_stopped}
-use Rattle.world_spec.proofs.HeldStores.{hashed_none}
 use Rattle.register_model.specs.declared.note.Note.{Note}
 use Rattle.world_spec.specs.Nodes.{Node, Up, Down, Taken, taken, hashed_by_start}
 use Rattle.world_spec.specs.Steps.{ComesTo, StartsAs}
@@ -26,10 +25,6 @@ use Rattle.world_model.specs.declared.error.WorldError.{WorldError}
 use Rattle.world_model.specs.declared.error.WorldError.TheVariants as worlds
 use Rattle.world_model.specs.declared.node.MemNode.{MemNode}
 use Rattle.world_model.specs.declared.node.MemNode.TheVariants as memory
-
--- an error as an error result
-pub as_error : {T : Type 0} (e x : PeerError) → e ≡ x → IsErrOf {T = T} (Err e) x
-as_error e x is = rw is refl
 
 -- an error after which the run goes on cut nothing off
 planned : (strings : List (List ℕ)) (first now : Account) (e : PeerError) → world_error e ≡ None → IsUnplanned strings first now e → ⊥
@@ -167,10 +162,6 @@ module _ (me : ℕ) (event : Event) (node : MemNode) (peer : MemPeer) (here : no
 
   pub up_cut : (first now : Account) (w : WorldError) → IsCutOff (taken peer.me event (Up peer.machine.state peer.machine.stores)).hashed first now w → IsCutOff (taken me event (node_by node)).hashed first now w
   up_cut first now w cut = subst (λ (due : Taken). IsCutOff due.hashed first now w) taken_here cut
-
--- a peer that is down takes no step
-pub down_taken : (first : Account) (me : ℕ) (event : Event) (s : HeldStores) (out : Out) (notes : List Note) → out ≡ nothing → notes ≡ [] → ComesTo first first (taken me event (Down s)) (Down s) out notes
-down_taken first me event s out notes none quiet = rw none (rw quiet (record { is = refl; has = hashed_none first }))
 
 -- an outbox with notes alone sends nothing, so what it sends may go
 pub none_goes : (me : ℕ) (o : Outbox) → HasNotesAlone o → AllMayGo me (out_of o)

@@ -1,7 +1,6 @@
-ghost use Rattle.std.specs.Prelude.{◌≡◌, ◌++◌, ◌∷◌, [], Some, IfOk, IfErr, OnOk, OnErr};
+ghost use Rattle.std.specs.Prelude.{◌≡◌, ◌++◌, ◌∷◌, [], Some, IfErr, OnOk, OnErr};
 ghost use Rattle.std.specs.Option.{option_map};
 ghost use Rattle.ens_outside.specs.Maps.{value_at, with_value};
-ghost use Rattle.ens_outside.specs.Told.{bytes_of};
 ghost use Rattle.world_stores.specs.Faults.{awaiting, no_faults};
 ghost use Rattle.world_stores.specs.Maps.{without};
 ghost use Rattle.world_stores.specs.Nodes.{NodesDo, NodesRefuse, reverted, top_of};

@@ -1,4 +1,4 @@
-ghost use Rattle.std.specs.Prelude.{◌≡◌, ◌↔◌, ◌≤◌, ◌∷◌, ◌++◌, [], ℕ, List, Option, None, Some, if◌then◌else◌, IsTrue, IfOk, IfErr, OnErr, OnOk};
+ghost use Rattle.std.specs.Prelude.{◌≡◌, ◌↔◌, ◌≤◌, ◌∷◌, ◌++◌, [], Option, None, Some, if◌then◌else◌, IsTrue, IfOk, IfErr, OnErr, OnOk};
 ghost use Rattle.ens_base.specs.Causes.{Rose};
 ghost use Rattle.ens_outside.specs.Links.{LinkCounts, Sends, Looks};
 ghost use Rattle.ens_outside.specs.MemLink.{look_at, first_looks, FailsNext, link_called, link_failed, SendDid, ReceiveDid};

@@ -1,6 +1,5 @@
-ghost use Rattle.std.specs.Prelude.{◌≡◌, ◌+◌, ◌≤◌, ℕ, Bool, length, Some};
+ghost use Rattle.std.specs.Prelude.{◌≡◌, ◌+◌, ◌≤◌, length, Some};
 ghost use Rattle.ens_outside.specs.MemLink.{answer_at};
-ghost use Rattle.ens_outside.specs.Links.{AnswersNext};
 
 use crate::ticker::Ticker;
 

@@ -1,4 +1,4 @@
-use Rattle.std.proofs.Common.{◌≡◌, ◌∷◌, ap, append-nil, ◌∙◌, List, ℕ}
+use Rattle.std.proofs.Common.{◌∷◌, ap, append-nil, ◌∙◌, List, ℕ}
 use Rattle.ens_fields.proofs.GrammarLaws.{apart}
 use Rattle.peer_fact.specs.SavedBytes.{fields_spelling}
 use Rattle.peer_fact.proofs.FactLaws.{regrouped}

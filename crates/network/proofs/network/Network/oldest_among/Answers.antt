@@ -1,7 +1,7 @@
 use Rattle.std.proofs.Common.{◌&&◌, ◌∙◌, Bool, Some, ap, sym, false, rules}
 use Rattle.std.specs.Option.{option_map_or}
 use Rattle.std.specs.Prelude.{slice_get}
-use Rattle.network.specs.Mail.{oldest, is_among, is_waiting, IsClear}
+use Rattle.network.specs.Mail.{oldest, is_among, IsClear}
 use Rattle.network.specs.Representation.{mail_in}
 use Rattle.network.proofs.Least.{least_found}
 use Rattle.network.proofs.MailLaws.{answer_is_sent}
