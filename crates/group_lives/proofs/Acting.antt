@@ -27,6 +27,7 @@ use Rattle.step_plans.specs.declared.error.PeerError.{PeerError}
 use Rattle.tree_node.specs.declared.version.TreeVersion.{TreeVersion}
 use Rattle.tree_node.specs.declared.version.TreeVersion.TheVariants.{Two}
 use Rattle.turn_spec.specs.Deeds.{Deed, Did, events_in}
+use Rattle.world_spec.proofs.Growth.{sent_after}
 use Rattle.world_spec.specs.HeldStores.{HeldStores, Ended}
 use Rattle.world_spec.specs.Nodes.{Node, Up, Down, Taken, taken_of, started, stopped}
 use Rattle.world_spec.specs.Runs.{Run, next_event, place_of, frame_from, printed_by, sealing_first, with_taken, stepped_at, stepped, changed_at, changed, start_strings, hashing, mode_at, with_start}
@@ -35,7 +36,7 @@ use Rattle.group_lives.specs.Acts.{Act, Begins, Does, Ends, Life, actor, and_dee
 use Rattle.group_lives.specs.Joined.{fact_on_disk}
 use Rattle.group_lives.specs.Lives.{AreLater}
 use Rattle.group_lives.proofs.Events.{KeepsLimits, from_frames, keeps_limits}
-use Rattle.group_lives.proofs.Outputs.{answers_printed, posted_sent}
+use Rattle.group_lives.proofs.Outputs.{answers_printed}
 use Rattle.group_lives.proofs.Places.{own_head, set_get, set_other, set_twice}
 
 -- two facts are one if they are told alike
@@ -130,7 +131,7 @@ module _ {D : Type 0} (seen : D → Option (List ℕ)) (faults : D → ℕ) (pee
     one = subst IsRunning (sym at) tt;
     fact = tt;
     keeps = from_frames w p d.event keeps;
-    sent = ap (λ (v : Run). v.mail.sent) step_is ∙ posted_sent (map (frame_from p) d.out.sends) w.mail;
+    sent = ap (λ (v : Run). v.mail.sent) step_is ∙ sent_after (map (frame_from p) d.out.sends) w.mail;
     answers = ap (λ (v : Run). answers_in v.printed) step_is ∙ answers_append w.printed (printed_by (next_event w.events) p d.out) ∙ ap (λ (more : List Answer). answers_in w.printed ++ more) (answers_printed (next_event w.events) p d.out);
     notes = ap (λ (v : Run). v.notes) step_is;
     on = subst (λ (v : Run). IsBefore (record v { events = next_event w.events }) acts) (sym step_is) (record {

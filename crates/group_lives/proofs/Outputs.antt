@@ -1,20 +1,12 @@
 -- What a world sends and prints after a step.
-use Rattle.std.proofs.Common.{◌≡◌, ◌++◌, ℕ, List, [], ◌∷◌, map, append-nil, refl, sym, ap, ◌∙◌}
-use Rattle.std.proofs.lemmas.List.{append_assoc}
+use Rattle.std.proofs.Common.{◌≡◌, ◌++◌, ℕ, List, [], ◌∷◌, map, append-nil, refl, ap, ◌∙◌}
 use Rattle.life_refinement.proofs.RealTime.{answers_append, changes_none}
-use Rattle.network.specs.Mail.{Mail, posted}
 use Rattle.peer_lives.specs.Moments.{answers_in}
 use Rattle.register_model.specs.declared.answer.Answer.{Answer}
 use Rattle.step_plans.specs.LeaderWords.{AnswerOut}
 use Rattle.step_plans.specs.Plans.{Out}
-use Rattle.wire_frames.specs.declared.frame.Frame.{Frame}
-use Rattle.world_spec.specs.Runs.{posted_all, answer_line, change_line, printed_by}
+use Rattle.world_spec.specs.Runs.{answer_line, change_line, printed_by}
 use Rattle.group_lives.specs.Acts.{given_at}
-
--- messages come after those that were sent before
-pub posted_sent : (fs : List Frame) (m : Mail) → (posted_all fs m).sent ≡ m.sent ++ fs
-posted_sent [] m = sym (append-nil m.sent)
-posted_sent (f ∷ fs) m = posted_sent fs (posted m f) ∙ append_assoc m.sent (f ∷ []) fs
 
 lines_given : (number : ℕ) (answers : List AnswerOut) → answers_in (map (answer_line number) answers) ≡ map (given_at number) answers
 lines_given number [] = refl
