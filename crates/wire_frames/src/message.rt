@@ -37,7 +37,7 @@ pub enum Message {
     /// Asks for the entry and the object of the key, in this round of the epoch.
     Get(Epoch, u64, Key),
     /// The entry of the key in the tree of the peer, and the object that matches it. The object is on the
-    /// heap, since it alone would make each message twice as large.
+    /// heap, so that no message takes more room than the other kinds need.
     GetReply(Epoch, u64, Key, Option<Entry>, Option<BoxedObject>),
     /// Asks to write the object.
     Put(Epoch, Object),
