@@ -11,6 +11,6 @@ mod commands;
 mod verdict;
 
 pub use commands::{apply, on_absent, on_any, on_present, on_stamp};
-pub use ens_object::{Object, copy_object};
+pub use ens_object::Object;
 pub use register_model::Note;
 pub use verdict::{CommandError, Verdict};
