@@ -5,7 +5,7 @@
     bench/peers.py                     all parts, one after another
     bench/peers.py idle peers etcd     these alone
 
-The parts are idle, peers, etcd, perf, storm, calls and instructions. Each prints rows as bench/times.md has them. The
+The parts are idle, peers, plain, etcd, perf, storm, calls and instructions. Each prints rows as bench/times.md has them. The
 files of the peers and of etcd lie below the folder TMPDIR, on one disk. etcd wants Debian's packages etcd-server and
 etcd-client, the last two parts want strace and valgrind, and rustc compiles the callers (bench/plain/load.rs)."""
 import os
@@ -25,7 +25,7 @@ CALLERS = [1, 8, 32]
 KEYS = 64
 SECONDS = 5
 STORM = 1_000_000
-PARTS = ["idle", "peers", "etcd", "perf", "storm", "calls", "instructions"]
+PARTS = ["idle", "peers", "plain", "etcd", "perf", "storm", "calls", "instructions"]
 
 
 def run(*words, **options):
@@ -75,8 +75,12 @@ class Bench:
     """The parts, over one compiled program of callers."""
 
     def __init__(self, folder):
-        self.load = folder / "load"
-        run("rustc", "--edition", "2021", "-O", "-o", self.load, TOP / "bench" / "plain" / "load.rs")
+        self.folder = folder
+        self.load = self.compiled("load")
+
+    def compiled(self, name):
+        run("rustc", "--edition", "2021", "-O", "-o", self.folder / name, TOP / "bench" / "plain" / f"{name}.rs")
+        return self.folder / name
 
     def serve(self, running, *under):
         """Starts three peers, and waits until they serve. Returns the port below theirs."""
@@ -88,9 +92,9 @@ class Bench:
         run(self.load, "count", port, len(MEMBERS), "put", KEYS, KEYS)
         return port
 
-    def rows(self, what, running, target):
+    def rows(self, what, running, target, kinds=("put", "get")):
         """A row for each kind of call and number of callers."""
-        for kind in ["put", "get"]:
+        for kind in kinds:
             for callers in CALLERS:
                 before = processor_time(running.processes)
                 words = run(self.load, *target, kind, callers, KEYS, SECONDS).split()
@@ -111,6 +115,18 @@ class Bench:
         with Running() as running:
             port = self.serve(running)
             self.rows("three peers", running, ["peers", port, len(MEMBERS)])
+
+    def plain(self):
+        """Puts of plain peers that write the same files, without seals and with them."""
+        program = self.compiled("peer")
+        for seals in [[], ["seals"]]:
+            with Running() as running:
+                port = random.randrange(20_000, 30_000)
+                for member in MEMBERS:
+                    running.start(str(member), program, member, port, *seals)
+                time.sleep(1)
+                what = " with ".join(["three plain peers", *seals])
+                self.rows(what, running, ["peers", port, len(MEMBERS)], ["put"])
 
     def start_etcd(self, running):
         """Starts three members of etcd. Returns their ports for clients."""

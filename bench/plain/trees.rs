@@ -6,39 +6,39 @@
 //     rustc --edition 2021 -O -o /tmp/trees bench/plain/trees.rs && /tmp/trees && /tmp/trees two many
 use std::collections::BTreeMap;
 use std::time::Instant;
-type Name = [u8; 16];
+pub type Name = [u8; 16];
 #[derive(Clone, Copy, PartialEq, Eq)]
-struct Version {
-    count: u64,
-    proposer: u32,
-    seq: u64,
+pub struct Version {
+    pub count: u64,
+    pub proposer: u32,
+    pub seq: u64,
 }
 #[derive(Clone)]
-struct Entry {
-    key: Vec<u8>,
-    version: Version,
-    digest: Name,
+pub struct Entry {
+    pub key: Vec<u8>,
+    pub version: Version,
+    pub digest: Name,
 }
-type Nodes = BTreeMap<Name, Vec<u8>>;
+pub type Nodes = BTreeMap<Name, Vec<u8>>;
 // A version of the tree: the first byte of an inner node and of a segment, and the level of segments.
 #[derive(Clone, Copy)]
-struct Shape {
+pub struct Shape {
     inner: u8,
     segment: u8,
-    levels: u8,
+    pub levels: u8,
 }
-const ONE: Shape = Shape {
+pub const ONE: Shape = Shape {
     inner: 1,
     segment: 2,
     levels: 3,
 };
-const TWO: Shape = Shape {
+pub const TWO: Shape = Shape {
     inner: 3,
     segment: 4,
     levels: 5,
 };
 
-fn table() -> [u32; 64] {
+pub fn table() -> [u32; 64] {
     let mut k = [0u32; 64];
     for i in 0..64 {
         k[i] = ((i as f64 + 1.0).sin().abs() * 4294967296.0) as u32;
@@ -50,8 +50,8 @@ const S: [u32; 64] = [
     14, 20, 5, 9, 14, 20, 4, 11, 16, 23, 4, 11, 16, 23, 4, 11, 16, 23, 4, 11, 16, 23, 6, 10, 15,
     21, 6, 10, 15, 21, 6, 10, 15, 21, 6, 10, 15, 21,
 ];
-struct Md5 {
-    k: [u32; 64],
+pub struct Md5 {
+    pub k: [u32; 64],
 }
 impl Md5 {
     fn block(&self, st: &mut [u32; 4], b: &[u8]) {
@@ -78,7 +78,7 @@ impl Md5 {
         st[2] = st[2].wrapping_add(c);
         st[3] = st[3].wrapping_add(d);
     }
-    fn digest(&self, bytes: &[u8]) -> Name {
+    pub fn digest(&self, bytes: &[u8]) -> Name {
         let mut st = [0x67452301u32, 0xefcdab89, 0x98badcfe, 0x10325476];
         let mut it = bytes.chunks_exact(64);
         for b in &mut it {
@@ -100,7 +100,7 @@ impl Md5 {
         out
     }
 }
-fn digit(h: &Name, level: u32) -> u8 {
+pub fn digit(h: &Name, level: u32) -> u8 {
     let b = h[(level / 2) as usize];
     if level % 2 == 0 {
         b >> 4
@@ -115,7 +115,7 @@ fn header(tag: u8, level: u8, index: u32, room: usize) -> Vec<u8> {
     o.extend_from_slice(&index.to_be_bytes());
     o
 }
-fn encode_inner(shape: Shape, level: u8, index: u32, cs: &[Option<Name>]) -> Vec<u8> {
+pub fn encode_inner(shape: Shape, level: u8, index: u32, cs: &[Option<Name>]) -> Vec<u8> {
     let mut o = header(shape.inner, level, index, 264);
     let mut mask = 0u16;
     let mut bit = 1u16;
@@ -146,7 +146,7 @@ fn encode_segment(shape: Shape, index: u32, es: &[Entry]) -> Vec<u8> {
     }
     o
 }
-fn decode_inner(shape: Shape, b: &[u8], level: u8, index: u32) -> Option<Vec<Option<Name>>> {
+pub fn decode_inner(shape: Shape, b: &[u8], level: u8, index: u32) -> Option<Vec<Option<Name>>> {
     if b.len() < 8 || b[0] != shape.inner || b[1] != level || b[2..6] != index.to_be_bytes() {
         return None;
     }
@@ -206,12 +206,12 @@ fn fetch(m: &Md5, nodes: &Nodes, n: &Name) -> Option<Vec<u8>> {
         None
     }
 }
-fn store(m: &Md5, nodes: &mut Nodes, b: Vec<u8>) -> Name {
+pub fn store(m: &Md5, nodes: &mut Nodes, b: Vec<u8>) -> Name {
     let n = m.digest(&b);
     nodes.insert(n, b);
     n
 }
-fn put_under(
+pub fn put_under(
     m: &Md5,
     nodes: &mut Nodes,
     shape: Shape,
