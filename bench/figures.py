@@ -5,9 +5,9 @@
     bench/figures.py crates/ensemble/out/ensemble 5 >/tmp/before
 
 Elapsed time, processor time and memory are the system's account of the process; memory below that of Python itself,
-some 14 MB, is not seen. Where `valgrind` is there, the runs of
-the second table show what does not depend on the hour: instructions, misses of the first-level caches of 32 KiB for
-instructions and data, and the functions that miss most. bench/times.md has measured tables."""
+some 14 MB, is not seen. Where `valgrind` is there, the runs of the second table show what does not depend on the hour:
+instructions, misses of the first-level caches of 32 KiB for instructions and data, and the functions that miss most.
+bench/times.md has measured tables."""
 import os, re, shutil, subprocess, sys, tempfile, time
 
 HERE = os.path.dirname(os.path.abspath(__file__))
