@@ -1,5 +1,5 @@
 // A plain peer, with std alone, that does for a put what a peer of the ensemble does: it takes the entry into the
-// tree of `trees.rs`, appends the four nodes on the path of the key, the top record and the object to files, and
+// tree of `trees.rs`, appends the six nodes on the path of the key, the top record and the object to files, and
 // with `seals` saves a fact before the object, in three steps with a sync each. Peer 1 leads, and answers once
 // another peer has written. There are no elections, no gets and no calls at other peers.
 //
@@ -82,7 +82,7 @@ struct Storage {
 impl Storage {
     fn new(has_seals: bool) -> Storage {
         let (md5, mut tree) = (Md5 { k: trees::table() }, Nodes::new());
-        let top = trees::store(&md5, &mut tree, trees::encode_inner(trees::ONE, 0, 0, &[]));
+        let top = trees::store(&md5, &mut tree, trees::encode_inner(trees::TWO, 0, 0, &[]));
         let [nodes, objects] = ["nodes", "objects"].map(|name| Log { file: created(name), end: 0 });
         let facts = has_seals.then(|| FactFile { file: created("fact"), serial: 0 });
         Storage { md5, tree, top, nodes, objects, facts }
@@ -94,7 +94,7 @@ impl Storage {
         let entry = Entry { key: key.to_vec(), version, digest: self.md5.digest(&object) };
         let hash = self.md5.digest(key);
         let top = Some(self.top);
-        self.top = trees::put_under(&self.md5, &mut self.tree, trees::ONE, 0, 0, top, &hash, entry).expect("the tree is whole");
+        self.top = trees::put_under(&self.md5, &mut self.tree, trees::TWO, 0, 0, top, &hash, entry).expect("the tree is whole");
         self.write_path(&hash);
         self.nodes.put(&[], &self.top);
         if let Some(facts) = &mut self.facts {
@@ -106,11 +106,11 @@ impl Storage {
     /// Writes the nodes on the path of a key.
     fn write_path(&mut self, hash: &Name) {
         let (mut name, mut index) = (self.top, 0);
-        for level in 0..=trees::ONE.levels {
+        for level in 0..=trees::TWO.levels {
             let node = &self.tree[&name];
             self.nodes.put(&name, node);
-            if level < trees::ONE.levels {
-                let children = trees::decode_inner(trees::ONE, node, level, index).expect("an inner node");
+            if level < trees::TWO.levels {
+                let children = trees::decode_inner(trees::TWO, node, level, index).expect("an inner node");
                 let digit = trees::digit(hash, u32::from(level));
                 name = children[usize::from(digit)].expect("the path is there");
                 index = index * 16 + u32::from(digit);
