@@ -1,8 +1,8 @@
 -- The map of a log after a put, and after one that failed.
 use Rattle.std.proofs.Common.{◌≡◌, ◌≢◌, ℕ, ◌+◌, ◌<◌, ◌≤◌, ◌^◌, List, ◌++◌, length, take, Option, Some, sym, ap, ◌∙◌, subst, arith}
 use Rattle.std.proofs.lemmas.List.{length-take}
-use Rattle.std.specs.BTreeMap.{get}
-use Rattle.ens_base.specs.Lists.{bytes_cmp}
+use Rattle.std.specs.HashMap.{get}
+use Rattle.ens_base.specs.Lists.{same_bytes}
 use Rattle.ens_outside.specs.Maps.{Entries, value_at, with_value}
 use Rattle.ens_outside.proofs.MapLaws.{found_after, others_after}
 use Rattle.disk_log.specs.Records.{record_bytes}
@@ -42,7 +42,7 @@ put_holds seen old new es name content p holds short small appends at len places
 
 -- a call that left the log and the places of the index as they were
 pub keeps_holds : {D : Type 0} (seen : D → Option (List ℕ)) (old new : Log D) (es : Entries) → Holds seen old es → ((front : List ℕ) → Begins seen old.file front → Begins seen new.file front)
-    → ((q : List ℕ) → get bytes_cmp new.places q ≡ get bytes_cmp old.places q) → new.recent ≡ old.recent → Holds seen new es
+    → ((q : List ℕ) → get same_bytes new.places q ≡ get same_bytes old.places q) → new.recent ≡ old.recent → Holds seen new es
 keeps_holds seen old new es holds stays same kept = record {
   bytes = holds.bytes;
   on = stays holds.bytes holds.on;

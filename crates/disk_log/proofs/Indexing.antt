@@ -2,10 +2,9 @@
 use Rattle.std.proofs.Common.{◌≡◌, ◌≢◌, ℕ, ◌+◌, Bool, true, false, cond, List, ◌++◌, length, take, drop, Option, None, Some, refl, sym, ap, ◌∙◌, subst, arith, length-append}
 use Rattle.std.proofs.Math.Seq.{drop-append-add}
 use Rattle.std.proofs.lemmas.List.{take-append-le, drop-append-le, length-drop}
-use Rattle.std.proofs.lemmas.Map.Text.{is_eq-slice_cmp}
 use Rattle.std.proofs.lemmas.Slice.Eq.{bytes_eq-Decides}
-use Rattle.std.specs.BTreeMap.{BTreeMap, get, is_at}
-use Rattle.ens_base.specs.Lists.{bytes_cmp}
+use Rattle.std.specs.HashMap.{HashMap, get}
+use Rattle.ens_base.specs.Lists.{same_bytes}
 use Rattle.ens_outside.specs.Maps.{Entries, value_at, with_value}
 use Rattle.ens_outside.proofs.MapLaws.{found_after, others_after}
 use Rattle.disk_log.specs.Records.{entries_of}
@@ -14,17 +13,17 @@ use Rattle.disk_log.specs.declared.place.Place.{Place}
 use Rattle.disk_log.proofs.RecordLaws.{ReadsAs, whole_more, entries_more}
 
 -- the index took this place under this name
-abbrev pub Places : List ℕ → Option Place → BTreeMap (List ℕ) Place → BTreeMap (List ℕ) Place → Type 0
-Places name place old new = (q : List ℕ) → get bytes_cmp new q ≡ cond (is_at (bytes_cmp name) q) place (get bytes_cmp old q)
+abbrev pub Places : {S : Type 0} → List ℕ → Option Place → HashMap (List ℕ) Place S → HashMap (List ℕ) Place S → Type 0
+Places name place old new = (q : List ℕ) → get same_bytes new q ≡ cond (same_bytes name q) place (get same_bytes old q)
 
-pub same_name : (name q : List ℕ) → is_at (bytes_cmp name) q ≡ true → name ≡ q
-same_name name q at = (bytes_eq-Decides name q).0 (sym (is_eq-slice_cmp name q) ∙ at)
+pub same_name : (name q : List ℕ) → same_bytes name q ≡ true → name ≡ q
+same_name name q at = (bytes_eq-Decides name q).0 at
 
-pub at_itself : (name : List ℕ) → is_at (bytes_cmp name) name ≡ true
-at_itself name = is_eq-slice_cmp name name ∙ (bytes_eq-Decides name name).1 refl
+pub at_itself : (name : List ℕ) → same_bytes name name ≡ true
+at_itself name = (bytes_eq-Decides name name).1 refl
 
-other_name : (name q : List ℕ) → is_at (bytes_cmp name) q ≡ false → q ≢ name
-other_name name q off same = absurd (let t : is_at (bytes_cmp name) q ≡ true = is_eq-slice_cmp name q ∙ (bytes_eq-Decides name q).1 (sym same) in grind (arith, t, off))
+other_name : (name q : List ℕ) → same_bytes name q ≡ false → q ≢ name
+other_name name q off same = absurd (let t : same_bytes name q ≡ true = (bytes_eq-Decides name q).1 (sym same) in grind (arith, t, off))
 
 -- a place holds the same with more bytes behind it
 pub at_more : (front chunk : List ℕ) (p : Option Place) (content : Option (List ℕ)) → IsAt front p content → IsAt (front ++ chunk) p content
@@ -47,35 +46,35 @@ placed_at front chunk name content p is = (
   ap Some (sym (ap (λ (n : ℕ). take p.len (drop n (front ++ chunk))) is.at ∙ ap (take p.len) (drop-append-add front chunk (10 + length name)) ∙ ap (λ (n : ℕ). take n (drop (10 + length name) chunk)) is.len ∙ is.holds)),
 )
 
-pub index_more : (front chunk name content : List ℕ) (p : Place) (old new : BTreeMap (List ℕ) Place)
+pub index_more : {S : Type 0} (front chunk name content : List ℕ) (p : Place) (old new : HashMap (List ℕ) Place S)
     → Indexes old front → ReadsAs chunk name content → IsPlaceOf front chunk name content p → Places name (Some p) old new → Indexes new (front ++ chunk)
 index_more front chunk name content p old new indexed reads is places = record {
   whole = whole_more front chunk name content indexed.whole reads;
   each = λ q. subst (λ (o : Option Place). IsAt (front ++ chunk) o (value_at q (entries_of (front ++ chunk)))) (sym (places q))
-      (subst (λ (es : Entries). IsAt (front ++ chunk) (cond (is_at (bytes_cmp name) q) (Some p) (get bytes_cmp old q)) (value_at q es)) (sym (entries_more front chunk name content indexed.whole reads))
-      (by q (is_at (bytes_cmp name) q) refl));
+      (subst (λ (es : Entries). IsAt (front ++ chunk) (cond (same_bytes name q) (Some p) (get same_bytes old q)) (value_at q es)) (sym (entries_more front chunk name content indexed.whole reads))
+      (by q (same_bytes name q) refl));
 }
   where
-    by : (q : List ℕ) (b : Bool) → is_at (bytes_cmp name) q ≡ b → IsAt (front ++ chunk) (cond b (Some p) (get bytes_cmp old q)) (value_at q (with_value name content (entries_of front)))
+    by : (q : List ℕ) (b : Bool) → same_bytes name q ≡ b → IsAt (front ++ chunk) (cond b (Some p) (get same_bytes old q)) (value_at q (with_value name content (entries_of front)))
     by q true at =
         subst (λ (l : List ℕ). IsAt (front ++ chunk) (Some p) (value_at l (with_value name content (entries_of front)))) (same_name name q at)
         (subst (λ (o : Option (List ℕ)). IsAt (front ++ chunk) (Some p) o) (sym (found_after name content (entries_of front))) (placed_at front chunk name content p is))
     by q false off =
-        subst (λ (o : Option (List ℕ)). IsAt (front ++ chunk) (get bytes_cmp old q) o) (sym (others_after name q content (entries_of front) (other_name name q off)))
-        (at_more front chunk (get bytes_cmp old q) (value_at q (entries_of front)) (indexed.each q))
+        subst (λ (o : Option (List ℕ)). IsAt (front ++ chunk) (get same_bytes old q) o) (sym (others_after name q content (entries_of front) (other_name name q off)))
+        (at_more front chunk (get same_bytes old q) (value_at q (entries_of front)) (indexed.each q))
 
 -- an index with the same places is as good
-pub index_same : (old new : BTreeMap (List ℕ) Place) (bytes : List ℕ) → ((q : List ℕ) → get bytes_cmp new q ≡ get bytes_cmp old q) → Indexes old bytes → Indexes new bytes
+pub index_same : {S : Type 0} (old new : HashMap (List ℕ) Place S) (bytes : List ℕ) → ((q : List ℕ) → get same_bytes new q ≡ get same_bytes old q) → Indexes old bytes → Indexes new bytes
 index_same old new bytes same indexed = record {
   whole = indexed.whole;
   each = λ q. subst (λ (o : Option Place). IsAt bytes o (value_at q (entries_of bytes))) (sym (same q)) (indexed.each q);
 }
 
 -- a place that is put back
-pub restored : (name : List ℕ) (place : Place) (old middle new : BTreeMap (List ℕ) Place) → Places name (Some place) old middle → Places name (get bytes_cmp old name) middle new
-    → (q : List ℕ) → get bytes_cmp new q ≡ get bytes_cmp old q
-restored name place old middle new first second q = second q ∙ ap (λ (o : Option Place). cond (is_at (bytes_cmp name) q) (get bytes_cmp old name) o) (first q) ∙ by (is_at (bytes_cmp name) q) refl
+pub restored : {S : Type 0} (name : List ℕ) (place : Place) (old middle new : HashMap (List ℕ) Place S) → Places name (Some place) old middle → Places name (get same_bytes old name) middle new
+    → (q : List ℕ) → get same_bytes new q ≡ get same_bytes old q
+restored name place old middle new first second q = second q ∙ ap (λ (o : Option Place). cond (same_bytes name q) (get same_bytes old name) o) (first q) ∙ by (same_bytes name q) refl
   where
-    by : (b : Bool) → is_at (bytes_cmp name) q ≡ b → cond b (get bytes_cmp old name) (cond b (Some place) (get bytes_cmp old q)) ≡ get bytes_cmp old q
-    by true at = ap (get bytes_cmp old) (same_name name q at)
+    by : (b : Bool) → same_bytes name q ≡ b → cond b (get same_bytes old name) (cond b (Some place) (get same_bytes old q)) ≡ get same_bytes old q
+    by true at = ap (get same_bytes old) (same_name name q at)
     by false off = refl

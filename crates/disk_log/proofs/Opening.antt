@@ -1,13 +1,11 @@
 -- The map of a log that was opened.
 use Rattle.std.proofs.Common.{◌≡◌, ℕ, List, length, take, Option, Some, sym, ap, ◌∙◌, subst, arith}
 use Rattle.std.proofs.lemmas.List.{take_all, length-take}
-use Rattle.std.specs.BTreeMap.{BTreeMap}
 use Rattle.disk_log.specs.Records.{entries_of}
 use Rattle.disk_log.specs.Logs.{Holds, Indexes}
 use Rattle.disk_log.specs.Recents.{Remembers}
 use Rattle.disk_log.specs.Scans.{ScansAll}
 use Rattle.disk_log.specs.declared.log.Log.{Log}
-use Rattle.disk_log.specs.declared.place.Place.{Place}
 use Rattle.disk_log.specs.declared.scan.Index.{Index}
 use Rattle.disk_log.proofs.Scanning.{scan_all}
 
@@ -24,7 +22,7 @@ opens_holds seen log index file all told end places recent =
         long = omega (arith, size, end);
         clean = λ clean. size ∙ sym end;
       };
-      indexed = subst (λ (p : BTreeMap (List ℕ) Place). Indexes p (take index.end file)) (sym places) all.scanned.indexed;
+      indexed = subst (λ p. Indexes p (take index.end file)) (sym places) all.scanned.indexed;
       recent = recent;
       map = scan_all file index all;
     }

@@ -1,7 +1,7 @@
 -- The map that a log stands for.
 use Rattle.std.specs.Prelude.{◌≡◌, ◌≤◌, ◌+◌, ℕ, List, length, take, drop, Option, None, Some, Result, Ok, Err}
-use Rattle.std.specs.BTreeMap.{BTreeMap, get}
-use Rattle.ens_base.specs.Lists.{bytes_cmp}
+use Rattle.std.specs.HashMap.{HashMap, get}
+use Rattle.ens_base.specs.Lists.{same_bytes}
 use Rattle.ens_outside.specs.Maps.{Entries, value_at}
 use Rattle.ens_outside.specs.declared.errors.StoreError.{StoreError}
 use Rattle.ens_outside.specs.declared.errors.StoreError.TheVariants.{Failed, Memory}
@@ -19,9 +19,9 @@ IsAt bytes None content = content ≡ None
 IsAt bytes (Some p) content = (p.at + p.len ≤ length bytes) × (content ≡ Some (take p.len (drop p.at bytes)))
 
 -- these bytes are whole records, and the index has the place of the content that counts for each name
-pub record Indexes (places : BTreeMap (List ℕ) Place) (bytes : List ℕ) : Type 0 where
+pub record Indexes {S : Type 0} (places : HashMap (List ℕ) Place S) (bytes : List ℕ) : Type 0 where
   pub whole : IsWhole bytes
-  pub each : (name : List ℕ) → IsAt bytes (get bytes_cmp places name) (value_at name (entries_of bytes))
+  pub each : (name : List ℕ) → IsAt bytes (get same_bytes places name) (value_at name (entries_of bytes))
 
 -- a log on a disk that tells its bytes stands for this map
 pub record Holds {D : Type 0} (seen : D → Option (List ℕ)) (log : Log D) (es : Entries) : Type 0 where

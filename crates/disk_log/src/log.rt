@@ -1,7 +1,7 @@
 ghost use Rattle.std.specs.Prelude.{◌≡◌, ◌≤◌, ◌<◌, ◌+◌, List, ℕ, length, take, Some, IfOk, IfErr, OnOk, OnErr, IsErrOf, IsSome, ◌^◌, cond};
-ghost use Rattle.std.specs.BTreeMap.{get, is_at};
+ghost use Rattle.std.specs.HashMap.{get};
 ghost use Rattle.slot_disk.specs.Crash.{Told, SeenIn};
-ghost use Rattle.ens_base.specs.Lists.{bytes_cmp};
+ghost use Rattle.ens_base.specs.Lists.{same_bytes};
 ghost use Rattle.ens_outside.specs.Maps.{Entries, value_at, with_value};
 ghost use Rattle.ens_outside.specs.Stores.{StoreCounts};
 ghost use Rattle.ens_outside.specs.Told.{bytes_of};
@@ -16,7 +16,7 @@ use ens_base::{Bytes, Refused};
 use ens_outside::StoreError;
 use slot_disk::Disk;
 use std::alloc::Global;
-use std::collections::BTreeMap;
+use std::collections::HashMap;
 
 /// The greatest length of a name in bytes.
 pub const NAME_LIMIT: usize = 255;
@@ -28,15 +28,15 @@ pub const NAME_LIMIT: usize = 255;
 pub struct Log<D: Disk> {
     alloc: Global,
     file: LogFile<D>,
-    places: BTreeMap<Bytes, Place>,
+    places: HashMap<Bytes, Place>,
     record: Vec<u8>,
     recent: Recent,
 }
 
 /// Puts the place that a name had, or none, back into the index.
-fn restore(places: &mut BTreeMap<Bytes, Place>, name: &Bytes, place: Option<Place>)
-    requires { IsSome (get bytes_cmp places.old name.now) }
-    ensures { (q : List ℕ) → get bytes_cmp places.new q ≡ cond (is_at (bytes_cmp name.now) q) place (get bytes_cmp places.old q) }
+fn restore(places: &mut HashMap<Bytes, Place>, name: &Bytes, place: Option<Place>)
+    requires { IsSome (get same_bytes places.old name.now) }
+    ensures { (q : List ℕ) → get same_bytes places.new q ≡ cond (same_bytes name.now q) place (get same_bytes places.old q) }
 {
     match place {
         Some(place) => {

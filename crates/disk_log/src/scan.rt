@@ -11,7 +11,7 @@ use ens_base::{Bytes, Failed};
 use ens_outside::StoreError;
 use slot_disk::Disk;
 use std::alloc::Global;
-use std::collections::BTreeMap;
+use std::collections::HashMap;
 
 /// A record of a file.
 #[derive(Drop)]
@@ -23,7 +23,7 @@ pub(crate) struct Found {
 /// The index of a file: its records up to the offset `end`, and how long the file is.
 #[derive(Drop)]
 pub(crate) struct Index {
-    pub(crate) places: BTreeMap<Bytes, Place>,
+    pub(crate) places: HashMap<Bytes, Place>,
     pub(crate) end: u64,
     pub(crate) size: u64,
 }
@@ -116,7 +116,7 @@ fn scan<D: Disk>(alloc: Global, disk: &mut D) -> Result<Index, StoreError>
         return Err(StoreError::Failed);
     };
     let mut index = Index {
-        places: BTreeMap::new(alloc),
+        places: HashMap::new(alloc),
         end: 0,
         size,
     };

@@ -1,6 +1,6 @@
 use Rattle.std.proofs.Common.{◌≡◌, ◌≢◌, List, ℕ, length, Option, Some, refl, ap, ◌∙◌, subst, ◌++◌, cond, arith}
-use Rattle.std.specs.BTreeMap.{get, is_at}
-use Rattle.ens_base.specs.Lists.{bytes_cmp}
+use Rattle.std.specs.HashMap.{get}
+use Rattle.ens_base.specs.Lists.{same_bytes}
 use Rattle.ens_outside.specs.Maps.{Entries, value_at}
 use Rattle.disk_log.specs.Records.{record_bytes}
 use Rattle.disk_log.specs.Recents.{Remembers}
@@ -18,8 +18,8 @@ returns-in-Err-clause-err g c es holds =
     keeps_holds g.D.Disk.seen c.args.self.now _ es holds c.in-Err.ensures.err
     (restored name c.in_ok-place.place old middle c.restore.new.places c.in_ok-before.ensures.updates.0
     (λ q. c.restore.ensures q
-    ∙ ap (λ (n : List ℕ). cond (is_at (bytes_cmp n) q) c.in_ok-before.before (get bytes_cmp middle q)) c.in_ok-again.ensures
-    ∙ ap (λ (o : Option Place). cond (is_at (bytes_cmp name) q) o (get bytes_cmp middle q)) c.in_ok-before.ensures.old))
+    ∙ ap (λ (n : List ℕ). cond (same_bytes n q) c.in_ok-before.before (get same_bytes middle q)) c.in_ok-again.ensures
+    ∙ ap (λ (o : Option Place). cond (same_bytes name q) o (get same_bytes middle q)) c.in_ok-before.ensures.old))
     refl
 
 pub returns-in-Ok-clause-holds : goal.returns-in-Ok-clause-holds
