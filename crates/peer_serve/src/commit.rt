@@ -1,8 +1,8 @@
-ghost use Rattle.std.specs.Prelude.{◌≡◌, ◌≤◌, [], All, IfErr, IfOk, OnErr, OnOk};
+ghost use Rattle.std.specs.Prelude.{◌≡◌, ◌≤◌, ◌↔◌, [], All, IfErr, IfOk, IsTrue, Ok, OnErr, OnOk, Some};
 ghost use Rattle.ens_base.specs.Causes.{Rose};
 ghost use Rattle.ens_base.specs.View.{IsPeer};
 ghost use Rattle.fact_commit.specs.Commits.{Committed};
-ghost use Rattle.fact_store.specs.Files.{FileRefuses};
+ghost use Rattle.fact_store.specs.Files.{FileRefuses, file_kept};
 ghost use Rattle.fact_store.specs.Keeping.{Save};
 ghost use Rattle.fact_store.specs.declared.error.KeepError.TheVariants as keeps;
 ghost use Rattle.frame_sending.specs.Sending.{SendsInOrder};
@@ -120,10 +120,33 @@ const GROUP: u64 = 32;
 
 /// Returns whether the fact of the peer is on its disk.
 fn is_committed<D: Disk>(server: &mut Server<D>) -> bool
-    ensures { server.new ≡ server.old }
+    ensures kept { IsTrue result ↔ (file_kept server.old.facts ≡ Some (Ok (saved_by server.old.peer.machine.state))) }
+    ensures same { server.new ≡ server.old }
 {
     let fact = fact_of(server.peer.state());
     is_kept(&mut server.facts, &fact)
+}
+
+/// Sends what the steps of a peer put out, where its fact is on its disk: a commit that saves nothing.
+fn send_committed<L: Link, D: Disk>(
+    alloc: Global,
+    words: &PeerWords,
+    link: &mut L,
+    server: &mut Server<D>,
+) -> Result<(), ServeError>
+    requires me { IsPeer words.now.me }
+    requires ready { IsReady words.now server.old }
+    requires kept { file_kept server.old.facts ≡ Some (Ok (saved_by server.old.peer.machine.state)) }
+    ensures made { OnOk result (CommitMade D.seen D.may_leave D.moment D.left_since D.fault_count L.sent L.given L.fault_count words.now.me server.old server.new link.old link.new) }
+    ensures ready { OnOk result (IsReady words.now server.new) }
+    ensures broke { IfErr result (λ e. CommitBroke D.seen D.may_leave D.moment D.left_since D.fault_count L.sent L.given L.fault_count words.now.me (status_of e) server.old server.new link.old link.new) }
+    ensures later { L.fault_count link.old ≤ L.fault_count link.new }
+    ensures fault { IfErr result (λ e. e ≡ errors.Link → Rose (L.fault_count link.old) (L.fault_count link.new)) }
+{
+    if let Err(e) = send_waiting(alloc, words.me, link, server) {
+        return Err(link_error(e));
+    }
+    Ok(())
 }
 
 /// Ends a turn, the last of those that wait for a commit: commits if the turn found nothing, if its steps
@@ -144,8 +167,11 @@ pub(crate) fn end_turn<L: Link, D: Disk>(
     ensures later { L.fault_count link.old ≤ L.fault_count link.new }
     ensures fault { IfErr result (λ e. e ≡ errors.Link → Rose (L.fault_count link.old) (L.fault_count link.new)) }
 {
-    let is_kept = is_committed(server);
-    if is_quiet || is_kept || waiting >= GROUP {
+    if is_committed(server) {
+        send_committed(alloc, words, link, server)?;
+        return Ok(0);
+    }
+    if is_quiet || waiting >= GROUP {
         commit(alloc, words, link, server)?;
         return Ok(0);
     }
