@@ -2,10 +2,10 @@
 use Rattle.std.proofs.Common.{◌≡◌, ◌≢◌, ◌≤◌, ℕ, List, Option, None, Some, Result, Ok, Err, refl, sym, ap, subst, ◌∙◌, inl, inr, arith}
 use Rattle.std.specs.Prelude.{IfErr, OnOk}
 use Rattle.ens_base.specs.Causes.{Rose}
-use Rattle.ens_hashing.specs.declared.plain.PlainHasher.{PlainHasher}
-use Rattle.ens_outside.specs.MemStores.{Held}
-use Rattle.ens_outside.specs.Stores.{Read, Write, Top, SetTop}
-use Rattle.disk_log.specs.LogFiles.{IsClean}
+use Rattle.hash_book.specs.declared.plain.PlainHasher.{PlainHasher}
+use Rattle.environment.specs.MemStores.{Held}
+use Rattle.environment.specs.Stores.{Read, Write, Top, SetTop}
+use Rattle.disk_stores.specs.LogFiles.{IsClean}
 use Rattle.disk_stores.specs.DiskCalls.{HoldsNodes, NodesDo, NodesRefuse}
 use Rattle.disk_stores.specs.declared.nodes.DiskNodes.{DiskNodes}
 use Rattle.synctree.specs.Halves.{NodesDid}
@@ -16,7 +16,7 @@ use Rattle.synctree.specs.declared.error.TreeError.{TreeError}
 use Rattle.synctree.specs.declared.error.TreeError.TheVariants as trees
 use Rattle.tree_backup.specs.Causes.{IsFromOutside, of_tree}
 use Rattle.tree_node.specs.declared.position.Position.{Position}
-use Rattle.tree_verify.specs.Contents.{answered}
+use Rattle.tree_repair.specs.Contents.{answered}
 use Rattle.backup_job.specs.Backed.{node_in}
 
 -- how a plan ends that reads a content: its value, or the position that does not verify; nothing for a plan

@@ -3,9 +3,9 @@ use Rattle.std.specs.Prelude.{IsSomeAnd, Vec}
 use Rattle.std.specs.declared.alloc.Global.{Global}
 use Rattle.std.proofs.Common.{◌≡◌, ◌≢◌, ◌⊎◌, ℕ, List, length, Option, None, Some, Result, Ok, Err, refl, sym, ap, subst, ◌∙◌, inl, inr, arith}
 use Rattle.ens_base.specs.declared.status.Status.{Status}
-use Rattle.ens_outside.specs.Maps.{Entries}
-use Rattle.ens_outside.specs.MemStores.{Held}
-use Rattle.disk_log.specs.Records.{entries_of}
+use Rattle.environment.specs.Maps.{Entries}
+use Rattle.environment.specs.MemStores.{Held}
+use Rattle.disk_stores.specs.Records.{entries_of}
 use Rattle.disk_stores.specs.NodeMaps.{nodes_of}
 use Rattle.slot_disk.specs.Crash.{Told}
 use Rattle.tree_node.specs.declared.position.Position.{Position}

@@ -4,26 +4,26 @@ use Rattle.std.specs.Prelude.{Vec}
 use Rattle.std.specs.declared.alloc.Global.{Global}
 use Rattle.ens_base.specs.Causes.{Rose}
 use Rattle.ens_base.specs.declared.entry.Entry.{Entry}
-use Rattle.ens_hashing.specs.declared.plain.PlainHasher.{PlainHasher}
-use Rattle.ens_outside.specs.Maps.{Entries, value_at}
-use Rattle.ens_outside.specs.MemStores.{Held}
-use Rattle.ens_outside.specs.Stores.{BackendCall, BackendAnswer}
-use Rattle.ens_outside.specs.declared.errors.StoreError.{StoreError}
-use Rattle.ens_outside.specs.declared.errors.StoreError.TheVariants as stores
-use Rattle.disk_log.specs.LogFiles.{IsClean}
+use Rattle.hash_book.specs.declared.plain.PlainHasher.{PlainHasher}
+use Rattle.environment.specs.Maps.{Entries, value_at}
+use Rattle.environment.specs.MemStores.{Held}
+use Rattle.environment.specs.Stores.{BackendCall, BackendAnswer}
+use Rattle.environment.specs.declared.errors.StoreError.{StoreError}
+use Rattle.environment.specs.declared.errors.StoreError.TheVariants as stores
+use Rattle.disk_stores.specs.LogFiles.{IsClean}
 use Rattle.disk_stores.specs.DiskCalls.{HoldsNodes, HoldsObjects, ObjectsDo, ObjectsRefuse}
 use Rattle.disk_stores.specs.declared.backend.DiskBackend.{DiskBackend}
 use Rattle.disk_stores.specs.declared.nodes.DiskNodes.{DiskNodes}
 use Rattle.synctree.specs.Plans.{Did}
 use Rattle.synctree.specs.declared.error.TreeError.{TreeError}
 use Rattle.synctree.specs.declared.error.TreeError.TheVariants as trees
-use Rattle.tree_maps.specs.Forms.{Form}
-use Rattle.tree_maps.specs.Sixteen.{form_of}
+use Rattle.synctree.specs.Forms.{Form}
+use Rattle.synctree.specs.Sixteen.{form_of}
 use Rattle.tree_node.specs.declared.body.Scan.{Scan}
 use Rattle.tree_node.specs.declared.version.TreeVersion.{TreeVersion}
-use Rattle.tree_verify.specs.Levels.{scan_plan}
-use Rattle.tree_verify.specs.PlainScans.{plain_scan}
-use Rattle.tree_verify.proofs.Descending.{scan_is_plain}
+use Rattle.tree_repair.specs.Levels.{scan_plan}
+use Rattle.tree_repair.specs.PlainScans.{plain_scan}
+use Rattle.tree_repair.proofs.Descending.{scan_is_plain}
 use Rattle.tree_backup.specs.Causes.{IsFromOutside, of_tree}
 use Rattle.tree_backup.specs.Checks.{Spells}
 use Rattle.tree_backup.specs.Runs.{BacksUp, Behind, BehindWhole, matched}

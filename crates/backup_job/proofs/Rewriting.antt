@@ -3,15 +3,15 @@ use Rattle.std.proofs.Common.{◌≡◌, ◌≢◌, ◌⊎◌, ℕ, suc, List, [
 use Rattle.std.specs.Option.{IsSomeAnd}
 use Rattle.std.specs.Prelude.{IfErr, OnOk}
 use Rattle.ens_base.specs.declared.entry.Entry.{Entry}
-use Rattle.ens_hashing.specs.declared.plain.PlainHasher.{PlainHasher}
-use Rattle.ens_object.specs.Objects.{object_spelling}
-use Rattle.ens_object.specs.declared.object.Object.{Object}
-use Rattle.ens_outside.specs.Maps.{Entries, with_value}
-use Rattle.ens_outside.specs.MemStores.{Held, nodes_after}
-use Rattle.ens_outside.specs.Stores.{SetTop, Write}
-use Rattle.ens_outside.specs.declared.errors.StoreError.{StoreError}
-use Rattle.ens_outside.specs.declared.errors.StoreError.TheVariants as stores
-use Rattle.disk_log.specs.LogFiles.{IsClean}
+use Rattle.hash_book.specs.declared.plain.PlainHasher.{PlainHasher}
+use Rattle.stored_formats.specs.Objects.{object_spelling}
+use Rattle.stored_formats.specs.declared.object.Object.{Object}
+use Rattle.environment.specs.Maps.{Entries, with_value}
+use Rattle.environment.specs.MemStores.{Held, nodes_after}
+use Rattle.environment.specs.Stores.{SetTop, Write}
+use Rattle.environment.specs.declared.errors.StoreError.{StoreError}
+use Rattle.environment.specs.declared.errors.StoreError.TheVariants as stores
+use Rattle.disk_stores.specs.LogFiles.{IsClean}
 use Rattle.disk_stores.specs.DiskCalls.{HoldsNodes, HoldsObjects}
 use Rattle.disk_stores.specs.declared.backend.DiskBackend.{DiskBackend}
 use Rattle.disk_stores.specs.declared.nodes.DiskNodes.{DiskNodes}
@@ -21,9 +21,9 @@ use Rattle.synctree.specs.Plans.{Node, Hash, Ends, Stops, Did, ◌>>=◌}
 use Rattle.synctree.specs.declared.error.TreeError.{TreeError}
 use Rattle.synctree.specs.declared.error.TreeError.TheVariants as trees
 use Rattle.synctree.specs.declared.stored_node.StoredNode.{StoredNode}
-use Rattle.tree_maps.specs.Entries.{IsMap}
-use Rattle.tree_maps.specs.Maps.{Stands}
-use Rattle.tree_maps.specs.Sixteen.{form_of}
+use Rattle.synctree.specs.Entries.{IsMap}
+use Rattle.synctree.specs.Maps.{Stands}
+use Rattle.synctree.specs.Sixteen.{form_of}
 use Rattle.tree_node.specs.declared.position.Position.{Position}
 use Rattle.tree_node.specs.declared.version.TreeVersion.TheVariants.{Two}
 use Rattle.tree_repair.specs.Builds.{build_nodes}
@@ -174,6 +174,11 @@ module _ {D : Type 0} (seen : D → Option (List ℕ)) (faults : D → ℕ) wher
     restores_objects_clean (Err e) other clean (out, inl (error, is, did, same)) = subst (λ (u : DiskBackend D). IsClean u.log.file) (sym same) clean
     restores_objects_clean (Err e) other clean (out, inr (stores.Failed, is, did, stops)) = absurd (other (ap Some (sym is)))
     restores_objects_clean (Err e) other clean (out, inr (stores.Memory, is, did, stops)) = stops_clean os b c clean stops
+
+    -- after an error no object was stored, or all nodes were written
+    pub restores_in_order : (e : BackupError) → RestoresDisks (Err e) → (c ≡ b) ⊎ (((held : Held) → HoldsNodes seen m0 held → HoldsNodes seen m (rebuilt es held)) × (IsClean m0.log.file → IsClean m.log.file))
+    restores_in_order e (out, inl (error, is, did, same)) = inl same
+    restores_in_order e (out, inr (error, is, did, stops)) = inr (λ held holds. entered held holds did, λ clean. entered_clean clean did)
 
     pub restores_outside : (r : Result (Unit {0}) BackupError) → RestoresDisks r → IfErr r IsFromOutside
     restores_outside (Ok x) did = tt

@@ -3,8 +3,8 @@ use Rattle.std.proofs.Common.{◌≡◌, ◌≤◌, ℕ, Bool, true, false, List
 use Rattle.std.specs.Prelude.{cond, IfErr, OnOk}
 use Rattle.md5.specs.Md5.{md5}
 use Rattle.ens_base.specs.Lists.{same_bytes}
-use Rattle.ens_hashing.specs.declared.plain.PlainHasher.{PlainHasher}
-use Rattle.ens_outside.specs.MemStores.{Held}
+use Rattle.hash_book.specs.declared.plain.PlainHasher.{PlainHasher}
+use Rattle.environment.specs.MemStores.{Held}
 use Rattle.disk_stores.specs.DiskCalls.{HoldsNodes}
 use Rattle.disk_stores.specs.declared.nodes.DiskNodes.{DiskNodes}
 use Rattle.synctree.specs.Plans.{Done, Broken, Did, ◌>>=◌}
@@ -14,7 +14,7 @@ use Rattle.synctree.specs.declared.error.TreeError.{TreeError}
 use Rattle.synctree.specs.declared.error.TreeError.TheVariants as trees
 use Rattle.synctree.specs.declared.tree.Tree.{Tree}
 use Rattle.tree_backup.specs.Causes.{IsFromOutside, of_tree}
-use Rattle.tree_maps.specs.Forms.{root}
+use Rattle.synctree.specs.Forms.{root}
 use Rattle.tree_node.specs.declared.position.Position.{Position}
 use Rattle.tree_node.specs.declared.version.TreeVersion.{TreeVersion}
 use Rattle.backup_job.specs.Backed.{Shapes, Takes, node_in, version_of, version_under}

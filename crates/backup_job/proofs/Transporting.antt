@@ -1,26 +1,26 @@
 -- What disks hold, from what the stores on them hold.
 use Rattle.std.proofs.Common.{◌≡◌, ◌≢◌, ◌⊎◌, ℕ, List, ◌++◌, drop, take-append-drop, Option, None, Some, Result, Ok, Err, refl, sym, ap, subst, ◌∙◌, inl, inr}
 use Rattle.std.specs.Option.{IsSomeAnd}
-use Rattle.std.specs.Prelude.{OnOk, Vec}
+use Rattle.std.specs.Prelude.{OnErr, OnOk, Vec}
 use Rattle.std.specs.declared.alloc.Global.{Global}
 use Rattle.ens_base.specs.Causes.{Rose}
-use Rattle.ens_hashing.specs.declared.plain.PlainHasher.{PlainHasher}
+use Rattle.hash_book.specs.declared.plain.PlainHasher.{PlainHasher}
 use Rattle.slot_disk.specs.Crash.{SeenIn, Told}
-use Rattle.ens_outside.specs.Maps.{Entries}
-use Rattle.ens_outside.specs.MemStores.{Held}
-use Rattle.disk_log.specs.LogFiles.{IsClean}
-use Rattle.disk_log.specs.Logs.{Holds}
-use Rattle.disk_log.specs.Records.{entries_of}
-use Rattle.disk_log.specs.declared.log.Log.{Log}
+use Rattle.environment.specs.Maps.{Entries}
+use Rattle.environment.specs.MemStores.{Held}
+use Rattle.disk_stores.specs.LogFiles.{IsClean}
+use Rattle.disk_stores.specs.Logs.{Holds}
+use Rattle.disk_stores.specs.Records.{entries_of}
+use Rattle.disk_stores.specs.declared.log.Log.{Log}
 use Rattle.disk_stores.specs.DiskCalls.{HoldsNodes, HoldsObjects}
 use Rattle.disk_stores.specs.NodeMaps.{nodes_in, nodes_of}
 use Rattle.disk_stores.specs.declared.backend.DiskBackend.{DiskBackend}
 use Rattle.disk_stores.specs.declared.nodes.DiskNodes.{DiskNodes}
 use Rattle.synctree.specs.declared.error.TreeError.{TreeError}
 use Rattle.synctree.specs.declared.error.TreeError.TheVariants as trees
-use Rattle.tree_maps.specs.Entries.{IsMap}
-use Rattle.tree_maps.specs.Maps.{Stands}
-use Rattle.tree_maps.specs.Sixteen.{form_of}
+use Rattle.synctree.specs.Entries.{IsMap}
+use Rattle.synctree.specs.Maps.{Stands}
+use Rattle.synctree.specs.Sixteen.{form_of}
 use Rattle.tree_node.specs.declared.version.TreeVersion.TheVariants.{Two}
 use Rattle.tree_backup.specs.Causes.{IsFromOutside, of_tree}
 use Rattle.tree_backup.specs.Checks.{top_of}
@@ -28,13 +28,13 @@ use Rattle.tree_backup.specs.declared.error.BackupError.{BackupError}
 use Rattle.tree_backup.specs.declared.error.BackupError.TheVariants.{Failed}
 use Rattle.tree_backup.specs.declared.item.Content.{Content}
 use Rattle.backup_job.specs.Backed.{Backs, BacksLogs}
-use Rattle.backup_job.specs.Disks.{Changes, ChangesLogs, Closed, Leads, Leaves, Opened, PairRose, Same, error_of}
-use Rattle.backup_job.specs.Restored.{NodesRestored, ObjectsRestored, Rewrites}
+use Rattle.backup_job.specs.Disks.{Became, Changes, ChangesLogs, Closed, Leads, Leaves, Opened, PairRose, Same, error_of}
+use Rattle.backup_job.specs.Restored.{AreInOrder, NodesRestored, ObjectsRestored, Rewrites, rebuilt}
 use Rattle.backup_job.specs.declared.disks.Logs.{Logs}
 use Rattle.backup_job.specs.declared.disks.Pair.{Pair}
 use Rattle.backup_job.proofs.Holding.{Reopened, rose_later}
 use Rattle.backup_job.proofs.Remaining.{some_failed, tree_failed}
-use Rattle.backup_job.proofs.Rewriting.{RestoresDisks, restores_nodes, restores_nodes_clean, restores_objects, restores_objects_clean, restores_outside, stands_under}
+use Rattle.backup_job.proofs.Rewriting.{RestoresDisks, restores_in_order, restores_nodes, restores_nodes_clean, restores_objects, restores_objects_clean, restores_outside, stands_under}
 
 pub told_map : (o : Option (List ℕ)) (P Q : List ℕ → Type 0) → Told o P → ((file : List ℕ) → P file → Q file) → Told o Q
 told_map None P Q told more = tt
@@ -46,7 +46,7 @@ told_both o p P Q R told also more = told_map o P (λ file. Told p (λ other. R 
 leaves_more : {A : Type 0} (error : Option BackupError) (view : List ℕ → A) (P Q : A → Type 0) (file : List ℕ) → ((x : A) → P x → Q x) → Leaves error view P file → Leaves error view Q file
 leaves_more None view P Q file more h = more (view file) h
 leaves_more (Some Failed) view P Q file more (inl h) = inl (more (view file) h)
-leaves_more (Some Failed) view P Q file more (inr l) = inr (record { front = l.front; rest = l.rest; split = l.split; whole = l.whole; gives = more (view l.front) l.gives })
+leaves_more (Some Failed) view P Q file more (inr l) = inr (record { prefix = l.prefix; rest = l.rest; split = l.split; whole = l.whole; gives = more (view l.prefix) l.gives })
 leaves_more (Some e) view P Q file more h = more (view file) h
 
 module _ {D : Type 0} (seen : D → Option (List ℕ)) (faults : D → ℕ) where
@@ -56,9 +56,9 @@ module _ {D : Type 0} (seen : D → Option (List ℕ)) (faults : D → ℕ) wher
     h.on.file,
     h.on.told,
     record {
-      front = h.bytes;
+      prefix = h.bytes;
       rest = drop log.file.end h.on.file;
-      split = sym (take-append-drop log.file.end h.on.file) ∙ ap (λ (l : List ℕ). l ++ drop log.file.end h.on.file) h.on.front;
+      split = sym (take-append-drop log.file.end h.on.file) ∙ ap (λ (l : List ℕ). l ++ drop log.file.end h.on.file) h.on.prefix;
       whole = h.indexed.whole;
       gives = h.map;
     },
@@ -67,12 +67,12 @@ module _ {D : Type 0} (seen : D → Option (List ℕ)) (faults : D → ℕ) wher
   nodes_lead : (s : DiskNodes D) (held : Held) → HoldsNodes seen s held → SeenIn seen s.log.file.disk (λ file. Leads nodes_of (λ x. x ≡ held) file)
   nodes_lead s held h =
       let l = log_leads s.log h.entries h.log in
-      (l.0, l.1, record { front = l.2.front; rest = l.2.rest; split = l.2.split; whole = l.2.whole; gives = ap nodes_in l.2.gives ∙ h.nodes })
+      (l.0, l.1, record { prefix = l.2.prefix; rest = l.2.rest; split = l.2.split; whole = l.2.whole; gives = ap nodes_in l.2.gives ∙ h.nodes })
 
   -- the file that is left, if it gives this map, or leads to it after a failure
   left : {A : Type 0} (error : Option BackupError) (view : List ℕ → A) (P : A → Type 0) (d : D) (after : A) → P after → (error ≢ Some Failed → SeenIn seen d (λ file. view file ≡ after)) → SeenIn seen d (λ file. Leads view (λ x. x ≡ after) file) → SeenIn seen d (λ file. Leaves error view P file)
   left None view P d after h whole leads = let w = whole (λ e. cc) in (w.0, w.1, subst P (sym w.2) h)
-  left (Some Failed) view P d after h whole leads = (leads.0, leads.1, inr (record { front = leads.2.front; rest = leads.2.rest; split = leads.2.split; whole = leads.2.whole; gives = subst P (sym leads.2.gives) h }))
+  left (Some Failed) view P d after h whole leads = (leads.0, leads.1, inr (record { prefix = leads.2.prefix; rest = leads.2.rest; split = leads.2.split; whole = leads.2.whole; gives = subst P (sym leads.2.gives) h }))
   left (Some e) view P d after h whole leads = let w = whole (λ x. cc) in (w.0, w.1, subst P (sym w.2) h)
 
   -- what was made of the stores was made of their disks
@@ -122,6 +122,12 @@ module _ {D : Type 0} (seen : D → Option (List ℕ)) (faults : D → ℕ) wher
     changes = changed old new logs after (error_of r) Same Same opened backs.changes closed;
   }
 
+  -- objects that were not written are on their disk
+  pub kept_objects : (old new : Pair D) (logs after : Logs D) → Opened seen faults old logs → after.backend ≡ logs.backend → Closed seen faults after new → Became seen faults entries_of Same old.objects new.objects
+  kept_objects old new logs after opened same closed =
+      told_map (seen old.objects) _ _ opened.objects
+      (λ file holds. closed.objects (entries_of file) (subst (λ (b : DiskBackend D). HoldsObjects seen b (entries_of file)) (sym same) holds) (subst (λ (b : DiskBackend D). IsClean b.log.file) (sym same) opened.clean.1))
+
   -- a content that was written into the stores was written to the disks
   pub rewritten : (content : Content) (old new : Pair D) (logs after : Logs D) (h k : PlainHasher) (r : Result (Unit {0}) BackupError) → IsMap content.entries → Opened seen faults old logs
       → RestoresDisks seen faults content.entries content.objects logs.tree.store after.tree.store h k logs.tree.top after.tree.top logs.backend after.backend r
@@ -140,16 +146,26 @@ module _ {D : Type 0} (seen : D → Option (List ℕ)) (faults : D → ℕ) wher
       );
       failed = λ e. rose (failed_result r e);
     }) closed;
+    order = in_order r did;
   }
     where
+      in_order : (r : Result (Unit {0}) BackupError) → RestoresDisks seen faults content.entries content.objects logs.tree.store after.tree.store h k logs.tree.top after.tree.top logs.backend after.backend r → OnErr r (AreInOrder seen faults content.entries old new)
+      in_order (Ok x) did = tt
+      in_order (Err e) did = by (restores_in_order seen faults content.entries content.objects logs.tree.store after.tree.store h k logs.tree.top after.tree.top logs.backend after.backend e did)
+        where
+          by : (after.backend ≡ logs.backend) ⊎ (((held : Held) → HoldsNodes seen logs.tree.store held → HoldsNodes seen after.tree.store (rebuilt content.entries held)) × (IsClean logs.tree.store.log.file → IsClean after.tree.store.log.file)) → AreInOrder seen faults content.entries old new
+          by (inl same) = inl (kept_objects old new logs after opened same closed)
+          by (inr whole) = inr (told_map (seen old.nodes) _ _ opened.nodes (λ file holds. closed.nodes (rebuilt content.entries (nodes_of file)) (whole.0 (nodes_of file) holds) (whole.1 opened.clean.0)))
+
       failed_result : (r : Result (Unit {0}) BackupError) → error_of r ≡ Some Failed → r ≡ Err Failed
       failed_result (Ok x) is = absurd cc
       failed_result (Err e) is = ap Err (some_failed e is)
 
   -- disks that were not opened were not rewritten
-  pub not_rewritten : (content : Content) (old new : Pair D) (e : BackupError) → IsFromOutside e → Changes seen faults old new (Some e) Same Same → Rewrites seen faults content old new (Err e)
-  not_rewritten content old new e out kept = record {
+  pub not_rewritten : (content : Content) (old new : Pair D) (e : BackupError) → IsFromOutside e → Changes seen faults old new (Some e) Same Same → Became seen faults entries_of Same old.objects new.objects → Rewrites seen faults content old new (Err e)
+  not_rewritten content old new e out kept objects = record {
     outside = out;
     stands = tt;
     changes = changes_more old new (Some e) Same (NodesRestored content.entries (Some e)) Same (ObjectsRestored content.objects (Some e)) (λ x y is. inl (0, is)) (λ x y is. (0, is)) kept;
+    order = inl objects;
   }

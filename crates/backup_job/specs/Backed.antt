@@ -6,11 +6,11 @@ use Rattle.ens_base.specs.Causes.{Rose}
 use Rattle.ens_base.specs.Lists.{same_bytes}
 use Rattle.ens_base.specs.declared.entry.Entry.{Entry}
 use Rattle.ens_base.specs.declared.status.Status.{Status}
-use Rattle.ens_outside.specs.Maps.{Entries, value_at}
-use Rattle.ens_outside.specs.MemStores.{Held}
+use Rattle.environment.specs.Maps.{Entries, value_at}
+use Rattle.environment.specs.MemStores.{Held}
 use Rattle.slot_disk.specs.Crash.{Told}
-use Rattle.disk_log.specs.LogFiles.{IsClean}
-use Rattle.disk_log.specs.Records.{entries_of}
+use Rattle.disk_stores.specs.LogFiles.{IsClean}
+use Rattle.disk_stores.specs.Records.{entries_of}
 use Rattle.disk_stores.specs.DiskCalls.{HoldsNodes, HoldsObjects}
 use Rattle.disk_stores.specs.NodeMaps.{nodes_of}
 use Rattle.disk_stores.specs.declared.nodes.DiskNodes.{DiskNodes}
@@ -18,12 +18,12 @@ use Rattle.synctree.specs.Shapes.{version_in}
 use Rattle.synctree.specs.declared.error.TreeError.{TreeError}
 use Rattle.synctree.specs.declared.error.TreeError.TheVariants as trees
 use Rattle.synctree.specs.declared.tree.Tree.{Tree}
-use Rattle.tree_maps.specs.Forms.{root}
-use Rattle.tree_maps.specs.Sixteen.{form_of}
+use Rattle.synctree.specs.Forms.{root}
+use Rattle.synctree.specs.Sixteen.{form_of}
 use Rattle.tree_node.specs.declared.body.Scan.{Scan}
 use Rattle.tree_node.specs.declared.position.Position.{Position}
 use Rattle.tree_node.specs.declared.version.TreeVersion.{TreeVersion}
-use Rattle.tree_verify.specs.PlainScans.{plain_scan}
+use Rattle.tree_repair.specs.PlainScans.{plain_scan}
 use Rattle.tree_backup.specs.Causes.{IsFromOutside, cause_of}
 use Rattle.tree_backup.specs.Checks.{Spells, backup_with, top_of}
 use Rattle.tree_backup.specs.Items.{backup_spelling, entries_of as items_entries}

@@ -2,10 +2,10 @@
 use Rattle.std.specs.Prelude.{◌≡◌, ◌≢◌, ◌⊎◌, ◌≤◌, ℕ, List, ◌++◌, Option, None, Some, Result, Ok, Err}
 use Rattle.ens_base.specs.Causes.{Rose}
 use Rattle.slot_disk.specs.Crash.{SeenIn, Told}
-use Rattle.ens_outside.specs.Maps.{Entries}
-use Rattle.ens_outside.specs.MemStores.{Held}
-use Rattle.disk_log.specs.LogFiles.{IsClean}
-use Rattle.disk_log.specs.Records.{IsWhole, entries_of}
+use Rattle.environment.specs.Maps.{Entries}
+use Rattle.environment.specs.MemStores.{Held}
+use Rattle.disk_stores.specs.LogFiles.{IsClean}
+use Rattle.disk_stores.specs.Records.{IsWhole, entries_of}
 use Rattle.disk_stores.specs.DiskCalls.{HoldsNodes, HoldsObjects}
 use Rattle.disk_stores.specs.NodeMaps.{nodes_of}
 use Rattle.tree_backup.specs.declared.error.BackupError.{BackupError}
@@ -27,11 +27,11 @@ Same old new = new ≡ old
 
 -- The file begins with records that give such a map. The bytes behind them are those of calls that failed.
 pub record Leads {A : Type 0} (view : List ℕ → A) (P : A → Type 0) (file : List ℕ) : Type 0 where
-  pub front : List ℕ
+  pub prefix : List ℕ
   pub rest : List ℕ
-  pub split : file ≡ front ++ rest
-  pub whole : IsWhole front
-  pub gives : P (view front)
+  pub split : file ≡ prefix ++ rest
+  pub whole : IsWhole prefix
+  pub gives : P (view prefix)
 
 -- the error with which a call ended, if it did
 abbrev pub error_of : {T : Type 0} → Result T BackupError → Option BackupError
@@ -44,6 +44,10 @@ Leaves (Some Failed) view P file = P (view file) ⊎ Leads view P file
 Leaves error view P file = P (view file)
 
 module _ {D : Type 0} (seen : D → Option (List ℕ)) (faults : D → ℕ) where
+  -- where a disk told its bytes, the map that it gives became such a one
+  abbrev pub Became : {A : Type 0} → (List ℕ → A) → (A → A → Type 0) → D → D → Type 0
+  Became view P old new = Told (seen old) (λ file. SeenIn seen new (λ after. P (view file) (view after)))
+
   -- the count of faults of one of the disks rose
   abbrev pub PairRose : Pair D → Pair D → Type 0
   PairRose old new = Rose (faults old.nodes) (faults new.nodes) ⊎ Rose (faults old.objects) (faults new.objects)

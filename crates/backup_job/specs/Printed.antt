@@ -114,7 +114,7 @@ EndsAs (Err e) status text = (status ≡ Status.Memory) × (text ≡ memory_text
 abbrev pub GaveAtMost : ℕ → Option (List ℕ) → Option (List ℕ) → Type 0
 GaveAtMost most None left = Unit {0}
 GaveAtMost most (Some bytes) None = ⊥
-GaveAtMost most (Some bytes) (Some left) = (front : List ℕ) × (bytes ≡ front ++ left) × (length front ≤ most)
+GaveAtMost most (Some bytes) (Some left) = (prefix : List ℕ) × (bytes ≡ prefix ++ left) × (length prefix ≤ most)
 
 -- a job ends with this status only if it read its input to the end
 abbrev pub NeedsInput : Status → Type 0
@@ -125,7 +125,7 @@ NeedsInput status = ⊥
 
 -- How far a job read its source, and how many faults were counted, when it ends with this status. The source gave
 -- at most one byte more than a backup may have. A read fault came before its bytes decided anything: they could be
--- the front of a backup.
+-- the prefix of a backup.
 pub record HasRead (source left : Option (List ℕ)) (before now : ℕ) (status : Status) : Type 0 where
   pub taken : GaveAtMost 268435457 source left
   pub end : NeedsInput status → IsAtEnd left

@@ -1,23 +1,25 @@
 -- A content that is restored to two disks, and what the job that does it prints.
-use Rattle.std.specs.Prelude.{◌≡◌, ◌⊎◌, ℕ, List, [], ◌∷◌, take, string_bytes, Option, None, Some, Result, Ok, Err, IfErr, OnOk}
+use Rattle.std.specs.Prelude.{◌≡◌, ◌⊎◌, ℕ, List, [], ◌∷◌, take, string_bytes, Option, None, Some, Result, Ok, Err, IfErr, OnErr, OnOk}
 use Rattle.std.specs.declared.alloc.AllocError.{AllocError}
 use Rattle.ens_base.specs.declared.entry.Entry.{Entry}
 use Rattle.ens_base.specs.declared.status.Status.{Status}
-use Rattle.ens_object.specs.Objects.{object_spelling}
-use Rattle.ens_object.specs.declared.object.Object.{Object}
-use Rattle.ens_outside.specs.Maps.{Entries, with_value}
-use Rattle.ens_outside.specs.MemStores.{Held, nodes_after}
-use Rattle.ens_outside.specs.Stores.{SetTop, Write}
+use Rattle.stored_formats.specs.Objects.{object_spelling}
+use Rattle.stored_formats.specs.declared.object.Object.{Object}
+use Rattle.environment.specs.Maps.{Entries, with_value}
+use Rattle.environment.specs.MemStores.{Held, nodes_after}
+use Rattle.environment.specs.Stores.{SetTop, Write}
 use Rattle.synctree.specs.declared.stored_node.StoredNode.{StoredNode}
-use Rattle.tree_maps.specs.Maps.{Stands}
-use Rattle.tree_maps.specs.Sixteen.{form_of}
+use Rattle.synctree.specs.Maps.{Stands}
+use Rattle.synctree.specs.Sixteen.{form_of}
 use Rattle.tree_node.specs.declared.version.TreeVersion.TheVariants.{Two}
 use Rattle.tree_repair.specs.Builds.{build_of}
 use Rattle.tree_backup.specs.Causes.{IsFromOutside}
 use Rattle.tree_backup.specs.Checks.{top_of}
 use Rattle.tree_backup.specs.declared.error.BackupError.{BackupError}
 use Rattle.tree_backup.specs.declared.item.Content.{Content}
-use Rattle.backup_job.specs.Disks.{Changes, error_of}
+use Rattle.disk_stores.specs.Records.{entries_of}
+use Rattle.disk_stores.specs.NodeMaps.{nodes_of}
+use Rattle.backup_job.specs.Disks.{Became, Changes, Same, error_of}
 use Rattle.backup_job.specs.Printed.{GaveContent, PrintsCheck, Reports, content_text, fault_text, memory_text}
 use Rattle.backup_job.specs.declared.disks.Pair.{Pair}
 use Rattle.backup_job.specs.declared.ending.Ending.{Ending}
@@ -56,12 +58,17 @@ EndsWritten content (Ok x) status text = (status ≡ Status.Done) × (text ≡ c
 EndsWritten content (Err e) status text = Reports e status text
 
 module _ {D : Type 0} (seen : D → Option (List ℕ)) (faults : D → ℕ) where
+  -- No object was stored, or all nodes and the top record were written before the first of them.
+  abbrev pub AreInOrder : List Entry → Pair D → Pair D → Type 0
+  AreInOrder es old new = Became seen faults entries_of Same old.objects new.objects ⊎ Became seen faults nodes_of (λ held after. after ≡ rebuilt es held) old.nodes new.nodes
+
   -- The content was written to the disks, or an error came from outside. Its map stands under the digest in
   -- the new top record.
   pub record Rewrites (content : Content) (old new : Pair D) (result : Result (Unit {0}) BackupError) : Type 0 where
     pub outside : IfErr result IsFromOutside
     pub stands : OnOk result (Stands (form_of Two) (top_of content.entries) content.entries)
     pub changes : Changes seen faults old new (error_of result) (NodesRestored content.entries (error_of result)) (ObjectsRestored content.objects (error_of result))
+    pub order : OnErr result (AreInOrder content.entries old new)
 
   -- the source gave a content, and it was written to the disks with this result
   abbrev pub Wrote : Option (List ℕ) → Pair D → Pair D → Content → Result (Unit {0}) BackupError → Type 0

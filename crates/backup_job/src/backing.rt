@@ -2,7 +2,7 @@ ghost use Rattle.std.specs.Prelude.{◌≡◌, ◌≢◌, List, ℕ, IsSome};
 ghost use Rattle.std.specs.Io.KnownBytes.{Appends};
 ghost use Rattle.ens_base.specs.Causes.{Rose};
 ghost use Rattle.ens_base.specs.declared.status.Status.{Status};
-ghost use Rattle.ens_outside.specs.Written.{AppendsFront};
+ghost use Rattle.environment.specs.Written.{AppendsPrefix};
 ghost use Rattle.backup_job.specs.Backed.{Backed, Backs, BacksLogs, Ends, EndsBytes, Shapes};
 ghost use Rattle.backup_job.specs.Disks.{Between};
 
@@ -12,15 +12,15 @@ use crate::input::MOST_BYTES;
 use crate::opening::{open, tree_error};
 use disk_stores::DiskNodes;
 use ens_base::Status;
-use ens_hashing::PlainHasher;
-use ens_outside::{Sink, finish, write_all};
+use environment::{Sink, finish, write_all};
+use hash_book::PlainHasher;
 use slot_disk::Disk;
 use std::alloc::Global;
 use std::thread::Threads;
 use synctree::{Tree, TreeError};
 use tree_backup::{BackupError, backup};
 use tree_node::TreeVersion;
-use tree_verify::NoGate;
+use tree_repair::NoGate;
 
 /// The bytes of a backup, or why there are none, and the disks.
 #[derive(Drop)]
@@ -84,7 +84,7 @@ fn make<D: Disk, R: Threads + Sync>(rt: &R, alloc: Global, disks: Pair<D>) -> Ma
 /// Writes the bytes of a backup, unless they are too many.
 fn print_bytes<O: Sink>(bytes: &[u8], output: &mut O) -> Status
     ensures printed { result ≢ Status.WriteFault → (text : List ℕ) × EndsBytes bytes.now result text × Appends (O.written output.old) (O.written output.new) text }
-    ensures front { result ≡ Status.WriteFault → (status : Status) × (text : List ℕ) × EndsBytes bytes.now status text × AppendsFront (O.written output.old) (O.written output.new) text }
+    ensures prefix { result ≡ Status.WriteFault → (status : Status) × (text : List ℕ) × EndsBytes bytes.now status text × AppendsPrefix (O.written output.old) (O.written output.new) text }
     ensures write { result ≡ Status.WriteFault → Rose (O.fault_count output.old) (O.fault_count output.new) }
 {
     if bytes.len() > MOST_BYTES {
@@ -99,7 +99,7 @@ fn print_bytes<O: Sink>(bytes: &[u8], output: &mut O) -> Status
 /// Writes the bytes of a backup, or why there are none.
 fn print_made<O: Sink>(alloc: Global, made: Result<Vec<u8>, BackupError>, output: &mut O) -> Status
     ensures printed { result ≢ Status.WriteFault → (text : List ℕ) × Ends made result text × Appends (O.written output.old) (O.written output.new) text }
-    ensures front { result ≡ Status.WriteFault → (status : Status) × (text : List ℕ) × Ends made status text × AppendsFront (O.written output.old) (O.written output.new) text }
+    ensures prefix { result ≡ Status.WriteFault → (status : Status) × (text : List ℕ) × Ends made status text × AppendsPrefix (O.written output.old) (O.written output.new) text }
     ensures write { result ≡ Status.WriteFault → Rose (O.fault_count output.old) (O.fault_count output.new) }
 {
     match made {
@@ -127,8 +127,14 @@ pub fn print_backup<D: Disk + Drop, O: Sink, R: Threads + Sync>(
     output: &mut O,
 ) -> Status
     requires there { IsSome nodes.old × IsSome objects.old }
-    ensures printed { result ≢ Status.WriteFault → (text : List ℕ) × Between nodes.old objects.old nodes.new objects.new (λ old new. Backed D.seen D.fault_count old new result text) × Appends (O.written output.old) (O.written output.new) text }
-    ensures front { result ≡ Status.WriteFault → (status : Status) × (text : List ℕ) × Between nodes.old objects.old nodes.new objects.new (λ old new. Backed D.seen D.fault_count old new status text) × AppendsFront (O.written output.old) (O.written output.new) text }
+    ensures printed { result ≢ Status.WriteFault → (text : List ℕ)
+        × Between nodes.old objects.old nodes.new objects.new
+        (λ old new. Backed D.seen D.fault_count old new result text)
+        × Appends (O.written output.old) (O.written output.new) text }
+    ensures prefix { result ≡ Status.WriteFault → (status : Status) × (text : List ℕ)
+        × Between nodes.old objects.old nodes.new objects.new
+        (λ old new. Backed D.seen D.fault_count old new status text)
+        × AppendsPrefix (O.written output.old) (O.written output.new) text }
     ensures write { result ≡ Status.WriteFault → Rose (O.fault_count output.old) (O.fault_count output.new) }
     ensures there { IsSome nodes.new × IsSome objects.new }
 {

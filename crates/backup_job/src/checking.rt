@@ -2,8 +2,8 @@ ghost use Rattle.std.specs.Prelude.{◌≡◌, ◌≢◌, ◌≤◌, List, ℕ, 
 ghost use Rattle.std.specs.Io.KnownBytes.{Appends, IsAtEnd};
 ghost use Rattle.ens_base.specs.Causes.{Rose};
 ghost use Rattle.ens_base.specs.declared.status.Status.{Status};
-ghost use Rattle.ens_outside.specs.Written.{AppendsFront};
-ghost use Rattle.tree_maps.specs.Entries.{IsMap};
+ghost use Rattle.environment.specs.Written.{AppendsPrefix};
+ghost use Rattle.synctree.specs.Entries.{IsMap};
 ghost use Rattle.tree_node.specs.Entries.{AreAbove};
 ghost use Rattle.tree_backup.specs.Items.{KeysAbove};
 ghost use Rattle.backup_job.specs.Printed.{GaveAtMost, HasRead, NeedsInput, PrintsCheck, Reads, WasReadWhole};
@@ -11,12 +11,12 @@ ghost use Rattle.backup_job.specs.Printed.{GaveAtMost, HasRead, NeedsInput, Prin
 use crate::ending::{Ending, counted, print_ending, stopped};
 use crate::input::{InputError, read_all};
 use ens_base::Status;
-use ens_hashing::PlainHasher;
-use ens_outside::{Sink, Source};
+use environment::{Sink, Source};
+use hash_book::PlainHasher;
 use std::alloc::{AllocError, Global};
 use std::thread::Threads;
 use tree_backup::{BackupError, Content, check};
-use tree_verify::NoGate;
+use tree_repair::NoGate;
 
 /// Why no content was read.
 #[derive(Drop)]
@@ -85,13 +85,16 @@ pub fn print_check<S: Source, O: Sink, R: Threads + Sync>(
     output: &mut O,
 ) -> Status
     ensures printed { result ≢ Status.WriteFault → (text : List ℕ) × PrintsCheck (S.left input.old) result text × Appends (O.written output.old) (O.written output.new) text }
-    ensures front { result ≡ Status.WriteFault → (status : Status) × (text : List ℕ) × PrintsCheck (S.left input.old) status text × HasRead (S.left input.old) (S.left input.new) (S.fault_count input.old) (S.fault_count input.new) status × AppendsFront (O.written output.old) (O.written output.new) text }
+    ensures prefix { result ≡ Status.WriteFault → (status : Status) × (text : List ℕ)
+        × PrintsCheck (S.left input.old) status text
+        × HasRead (S.left input.old) (S.left input.new) (S.fault_count input.old) (S.fault_count input.new) status
+        × AppendsPrefix (O.written output.old) (O.written output.new) text }
     // How far it read: bytes that pass, and bytes that do not, were read to their end.
     ensures input { result ≢ Status.WriteFault → HasRead (S.left input.old) (S.left input.new) (S.fault_count input.old) (S.fault_count input.new) result }
     ensures read { result ≡ Status.ReadFault → Rose (S.fault_count input.old) (S.fault_count input.new) }
     // However it ends, it took at most one byte more than a backup may have.
     ensures taken { GaveAtMost 268435457 (S.left input.old) (S.left input.new) }
-    // The input failed before the bytes that it gave decided anything: they could be the front of a backup.
+    // The input failed before the bytes that it gave decided anything: they could be the prefix of a backup.
     ensures cut { result ≡ Status.ReadFault → GaveAtMost 268435456 (S.left input.old) (S.left input.new) }
     ensures write { result ≡ Status.WriteFault → Rose (O.fault_count output.old) (O.fault_count output.new) }
 {

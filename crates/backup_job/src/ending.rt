@@ -2,13 +2,13 @@ ghost use Rattle.std.specs.Prelude.{◌≡◌, ◌≢◌, List, ℕ, IfOk, strin
 ghost use Rattle.std.specs.Io.KnownBytes.{Appends};
 ghost use Rattle.ens_base.specs.Causes.{Rose};
 ghost use Rattle.ens_base.specs.declared.status.Status.{Status};
-ghost use Rattle.ens_outside.specs.Written.{AppendsFront};
+ghost use Rattle.environment.specs.Written.{AppendsPrefix};
 ghost use Rattle.backup_job.specs.Printed.{EndsAs, Reports, Stops, Unread, backup_text, content_text};
 
 use crate::checking::ReadError;
 use crate::input::InputError;
 use ens_base::Status;
-use ens_outside::{Sink, finish};
+use environment::{Sink, finish};
 use std::alloc::{AllocError, Global};
 use tree_backup::{BackupError, Content};
 
@@ -97,7 +97,7 @@ pub(crate) fn stopped(alloc: Global, error: &ReadError) -> Result<Ending, AllocE
 pub(crate) fn print_ending<O: Sink>(ending: Result<Ending, AllocError>, output: &mut O) -> Status
     requires { IfOk ending (λ e. e.status ≢ Status.WriteFault) }
     ensures printed { result ≢ Status.WriteFault → (text : List ℕ) × EndsAs ending result text × Appends (O.written output.old) (O.written output.new) text }
-    ensures front { result ≡ Status.WriteFault → (status : Status) × (text : List ℕ) × EndsAs ending status text × AppendsFront (O.written output.old) (O.written output.new) text }
+    ensures prefix { result ≡ Status.WriteFault → (status : Status) × (text : List ℕ) × EndsAs ending status text × AppendsPrefix (O.written output.old) (O.written output.new) text }
     ensures write { result ≡ Status.WriteFault → Rose (O.fault_count output.old) (O.fault_count output.new) }
 {
     match ending {

@@ -4,7 +4,7 @@ ghost use Rattle.ens_base.specs.Causes.{Rose};
 ghost use Rattle.backup_job.specs.Printed.{GaveAtMost, IsTooLong};
 
 use ens_base::Failed;
-use ens_outside::Source;
+use environment::Source;
 use std::alloc::{AllocError, Global};
 
 /// The most bytes that a backup may have.

@@ -1,11 +1,12 @@
 ghost use Rattle.std.specs.Prelude.{◌≡◌, IfOk, IfErr, Some};
 ghost use Rattle.tree_backup.specs.Causes.{IsFromOutside, of_store, of_tree};
-ghost use Rattle.backup_job.specs.Disks.{Changes, Opened, Same};
+ghost use Rattle.backup_job.specs.Disks.{Became, Changes, Opened, Same};
+ghost use Rattle.disk_stores.specs.Records.{entries_of};
 
 use crate::disks::{Logs, Pair, close};
 use disk_stores::{DiskBackend, DiskNodes};
 use ens_base::Refused;
-use ens_outside::StoreError;
+use environment::StoreError;
 use slot_disk::Disk;
 use std::alloc::Global;
 use synctree::{Tree, TreeError};
@@ -43,6 +44,7 @@ fn open_logs<D: Disk>(
 ) -> Result<Logs<D>, Refused<Pair<D>, BackupError>>
     ensures opened { IfOk result (λ logs. Opened D.seen D.fault_count disks logs) }
     ensures refused { IfErr result (λ r. Changes D.seen D.fault_count disks r.held (Some r.error) Same Same) }
+    ensures objects { IfErr result (λ r. Became D.seen D.fault_count entries_of Same disks.objects r.held.objects) }
     ensures outside { IfErr result (λ r. IsFromOutside r.error) }
 {
     let Pair { nodes, objects } = disks;
@@ -84,6 +86,7 @@ pub(crate) fn open<D: Disk>(
     ensures version { IfOk result (λ logs. logs.tree.version ≡ version) }
     ensures top { IfOk result (λ logs. logs.tree.top ≡ logs.tree.store.top) }
     ensures refused { IfErr result (λ r. Changes D.seen D.fault_count disks r.held (Some r.error) Same Same) }
+    ensures objects { IfErr result (λ r. Became D.seen D.fault_count entries_of Same disks.objects r.held.objects) }
     ensures outside { IfErr result (λ r. IsFromOutside r.error) }
 {
     let mut logs = open_logs(alloc, disks, version)?;

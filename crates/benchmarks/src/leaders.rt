@@ -3,11 +3,11 @@
 //! nothing is known of it, and its write is put and answered.
 
 use ens_base::{Command, Digest, Epoch, Key, PeerId, PeerSet, Value, Version, View, Views};
-use leader_words::{LeadError, LeadOut, Own};
-use leading::Leader;
-use peer_fact::{Change, Fact};
+use leader::Leader;
+use leader_output::{LeadError, LeadOut, Own};
 use phase_rows::{KeyRule, Seen, Then};
 use std::alloc::Global;
+use stored_formats::{Change, Fact};
 
 const EPOCH: Epoch = Epoch {
     count: 1,

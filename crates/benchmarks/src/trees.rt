@@ -1,14 +1,13 @@
 //! A hash tree over a store in memory.
 
 use ens_base::{Digest, Entry, Epoch, Key, Version};
-use ens_hashing::PlainHasher;
-use ens_outside::MemNodes;
+use environment::MemNodes;
+use hash_book::PlainHasher;
 use std::alloc::Global;
 use std::thread::Threads;
 use synctree::Tree;
 use tree_node::TreeVersion;
-use tree_repair::{ascends, build, install};
-use tree_verify::{NoGate, scan};
+use tree_repair::{NoGate, ascends, build, install, scan};
 
 /// The parts that are measured.
 pub const PARTS: [&str; 4] = ["inserts", "gets", "scans", "builds"];

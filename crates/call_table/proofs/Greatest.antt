@@ -11,7 +11,7 @@ use Rattle.ens_base.proofs.Orders.{versions, both_equal, equal_versions}
 use Rattle.ens_base.specs.Epochs.{version_cmp}
 use Rattle.ens_base.specs.Lists.{bytes_cmp, ◌∈◌}
 use Rattle.ens_base.specs.declared.entry.Entry.{Entry}
-use Rattle.ens_object.specs.declared.object.Object.{Object}
+use Rattle.stored_formats.specs.declared.object.Object.{Object}
 use Rattle.call_table.specs.declared.row.Found.{Found}
 use Rattle.call_table.specs.Best.{entry_cmp, either_object, better_at, better, best_of, IsGreatest, IsBest}
 

@@ -7,7 +7,7 @@ use Rattle.std.specs.declared.cmp.Ordering.TheVariants.{Less, Equal, Greater}
 use Rattle.ens_base.specs.Epochs.{version_cmp}
 use Rattle.ens_base.specs.Lists.{bytes_cmp, ◌∈◌}
 use Rattle.ens_base.specs.declared.entry.Entry.{Entry}
-use Rattle.ens_object.specs.declared.object.Object.{Object}
+use Rattle.stored_formats.specs.declared.object.Object.{Object}
 use Rattle.call_table.specs.declared.row.Found.{Found}
 
 -- by version, then by digest, then by key

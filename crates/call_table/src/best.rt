@@ -3,8 +3,8 @@ ghost use Rattle.call_table.specs.Best.{better as better_of, better_at as better
 
 use crate::row::Found;
 use ens_base::Entry;
-use ens_object::Object;
 use std::cmp::Ordering;
+use stored_formats::Object;
 
 fn compare(a: &Entry, b: &Entry) -> Ordering
     ensures { result ≡ entry_cmp a.now b.now }

@@ -1,6 +1,6 @@
 ghost use Rattle.std.specs.Prelude.{List, Option};
 ghost use Rattle.ens_base.specs.declared.entry.Entry.{Entry};
-ghost use Rattle.ens_object.specs.declared.object.Object.{Object};
+ghost use Rattle.stored_formats.specs.declared.object.Object.{Object};
 ghost use Rattle.call_table.specs.Best.{best_of, IsBest};
 
 /// The best of the replies of a round has the greatest of their entries, by version, digest and key.

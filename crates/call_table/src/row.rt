@@ -2,9 +2,9 @@ ghost use Rattle.std.specs.Prelude.{◌≡◌, IfOk};
 ghost use Rattle.call_table.specs.Rows.{base_of, check_round, has_put};
 
 use ens_base::{CopyError, Digest, Entry, Reply, Version};
-use ens_object::{Object, copy_object};
-use quorum_round::Round;
+use quorums::Round;
 use std::alloc::Global;
+use stored_formats::{Object, copy_object};
 
 /// What a leader knows of a key.
 #[derive(Clone, Copy, Debug, PartialEq, Eq)]

@@ -7,7 +7,7 @@ use Rattle.chart.specs.declared.fate.Fate.{Fate}
 use Rattle.chart.specs.Lines.{waiting}
 use Rattle.chart.specs.Notes.{arrow_line}
 
--- the messages of a front of the mail that wait and pass the test
+-- the messages of a prefix of the mail that wait and pass the test
 pub one_more : (test : Frame → Bool) (i : ℕ) (sent : List Frame) (waits : List Bool) (f : Frame) → i < length sent
     → waiting test (take (i + 1) sent) waits ≡ waiting test (take i sent) waits ++ (if slice_index_or waits i false && test (get_or sent i f) then get_or sent i f ∷ [] else [])
 one_more test i [] waits f below = absurd (omega arith)

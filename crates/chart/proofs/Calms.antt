@@ -6,7 +6,7 @@ use Rattle.network.specs.Mail.{is_among, oldest, most_messages}
 use Rattle.world_spec.specs.Runs.{Run, delivered, unhashed}
 use Rattle.chart.specs.Lines.{delivery_lines, calm_on, calm_lines}
 use Rattle.world_model.proofs.Loops.{minus_zero, none_left}
-use Rattle.held_stores.proofs.PeerPlan.{one_turn}
+use Rattle.world_spec.proofs.PeerSpec.{one_turn}
 
 no_turn : (peers : List Bool) (w : Run) → calm_lines peers 0 w ≡ []
 unfolding calm_lines

@@ -1,7 +1,7 @@
 -- Calls that were refused.
 use Rattle.std.proofs.Common.{Result, Ok, Err}
 use Rattle.std.specs.Prelude.{IfErr}
-use Rattle.held_stores.specs.Held.{Account}
+use Rattle.world_spec.specs.Held.{Account}
 use Rattle.world_spec.specs.Runs.{Run}
 use Rattle.world_model.specs.Worlds.{MayRefuse, Reaches}
 use Rattle.world_model.specs.declared.error.WorldError.{WorldError}

@@ -4,7 +4,7 @@ use Rattle.std.proofs.lemmas.List.{append_assoc, drop-map, drop_more}
 use Rattle.std.specs.Prelude.{true, false}
 use Rattle.ens_base.specs.Lists.{same_bytes}
 use Rattle.chart.specs.Text.{peer_line, peers_text, shown_after, shown_line}
-use Rattle.held_stores.proofs.PeerPlan.{one_turn}
+use Rattle.world_spec.proofs.PeerSpec.{one_turn}
 
 -- one more peer has been written
 pub peers_next : (old new : List ℕ) (below peers : ℕ) (whole : List ℕ) → below < peers → old ++ peers_text (below + 1) (peers - below) ≡ whole → new ≡ old ++ peer_line (below + 1)

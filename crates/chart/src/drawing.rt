@@ -1,6 +1,6 @@
 ghost use Rattle.std.specs.Prelude.{◌≡◌, ◌++◌, ◌∷◌, ◌&&◌, [], false, if◌then◌else◌, slice_index_or, OnOk, drop, length, map};
 ghost use Rattle.ens_base.specs.View.{IsPeer};
-ghost use Rattle.held_stores.specs.Held.{account};
+ghost use Rattle.world_spec.specs.Held.{account};
 ghost use Rattle.network.specs.Mail.{goes, oldest, most_messages};
 ghost use Rattle.schedule_text.specs.Spelling.{MayStand};
 ghost use Rattle.world_model.specs.Activities.{activity_at};
@@ -13,7 +13,7 @@ ghost use Rattle.chart.specs.Notes.{arrow_line, change_note, note_line, printed_
 use crate::fate::{Fate, Which};
 use crate::lines::Lines;
 use ens_base::{PeerId, PeerSet, Seq};
-use ens_hashing::Hasher16;
+use hash_book::Hasher16;
 use network::Network;
 use schedule_text::ScheduleEvent;
 use std::alloc::{AllocError, Global};
@@ -108,7 +108,10 @@ fn add_step(
     before: &Before,
 ) -> Result<(), AllocError>
     requires { IsPeer before.now.peer }
-    ensures { OnOk result (lines.new ≡ lines.old ++ (map (λ p. note_line before.now.peer (printed_words p)) (drop before.now.printed (run_of world.now).printed) ++ change_note before.now.peer before.now.activity (activity_at before.now.peer (run_of world.now)))) }
+    ensures { OnOk result (lines.new ≡ lines.old
+        ++ (map (λ p. note_line before.now.peer (printed_words p))
+        (drop before.now.printed (run_of world.now).printed)
+        ++ change_note before.now.peer before.now.activity (activity_at before.now.peer (run_of world.now)))) }
 {
     add_printed(alloc, world, lines, before)?;
     let peer = before.peer;
@@ -152,7 +155,9 @@ fn pass<H: Hasher16, R: Threads + Sync>(
     receiver: PeerId,
 ) -> Result<(), WorldError>
     requires { IsPeer sender × IsPeer receiver }
-    ensures reaches { Reaches (account H.kept H.clashes H.fulls hasher.old) (delivered_if (oldest (goes sender receiver) (run_of world.old).mail) (run_of world.old)) result (run_of world.new) (account H.kept H.clashes H.fulls hasher.new) }
+    ensures reaches { Reaches (account H.kept H.clashes H.fulls hasher.old)
+        (delivered_if (oldest (goes sender receiver) (run_of world.old).mail) (run_of world.old)) result
+        (run_of world.new) (account H.kept H.clashes H.fulls hasher.new) }
     ensures begins { Begins world.old world.new }
     ensures lines { OnOk result (lines.new ≡ lines.old ++ delivery_lines_if (oldest (goes sender receiver) (run_of world.old).mail) (run_of world.old)) }
 {
@@ -171,7 +176,9 @@ fn calm<H: Hasher16, R: Threads + Sync>(
     lines: &mut Lines,
     peers: &PeerSet,
 ) -> Result<(), WorldError>
-    ensures reaches { Reaches (account H.kept H.clashes H.fulls hasher.old) (calmed peers.now most_messages (run_of world.old)) result (run_of world.new) (account H.kept H.clashes H.fulls hasher.new) }
+    ensures reaches { Reaches (account H.kept H.clashes H.fulls hasher.old)
+        (calmed peers.now most_messages (run_of world.old)) result (run_of world.new)
+        (account H.kept H.clashes H.fulls hasher.new) }
     ensures begins { Begins world.old world.new }
     ensures lines { OnOk result (lines.new ≡ lines.old ++ calm_lines peers.now most_messages (run_of world.old)) }
 {
@@ -193,7 +200,9 @@ fn calm_among<H: Hasher16, R: Threads + Sync>(
     lines: &mut Lines,
     members: &Seq<PeerId>,
 ) -> Result<(), WorldError>
-    ensures reaches { Reaches (account H.kept H.clashes H.fulls hasher.old) (calmed (set_of members.now) most_messages (run_of world.old)) result (run_of world.new) (account H.kept H.clashes H.fulls hasher.new) }
+    ensures reaches { Reaches (account H.kept H.clashes H.fulls hasher.old)
+        (calmed (set_of members.now) most_messages (run_of world.old)) result (run_of world.new)
+        (account H.kept H.clashes H.fulls hasher.new) }
     ensures begins { Begins world.old world.new }
     ensures lines { OnOk result (lines.new ≡ lines.old ++ calm_lines (set_of members.now) most_messages (run_of world.old)) }
 {

@@ -15,7 +15,7 @@ mod notes;
 mod running;
 mod text;
 
-use ens_outside::{ReaderSource, WriterSink};
+use environment::{ReaderSource, WriterSink};
 use job::chart;
 use std::process::ExitCode;
 

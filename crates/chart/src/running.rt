@@ -1,5 +1,5 @@
 ghost use Rattle.std.specs.Prelude.{◌≡◌, IfOk, IfErr, OnOk};
-ghost use Rattle.held_stores.specs.Held.{account};
+ghost use Rattle.world_spec.specs.Held.{account};
 ghost use Rattle.schedule_text.specs.Spelling.{IsSchedule};
 ghost use Rattle.world_model.specs.Worlds.{MayRefuse};
 ghost use Rattle.world_spec.specs.Lines.{run_of_schedule};
@@ -9,7 +9,7 @@ ghost use Rattle.chart.specs.Lines.{run_lines as lines_of_run};
 use crate::drawing::{add_waiting, draw};
 use crate::fate::{Fate, Which};
 use crate::lines::Lines;
-use ens_hashing::Hasher16;
+use hash_book::Hasher16;
 use schedule_text::Schedule;
 use std::alloc::Global;
 use std::thread::Threads;
@@ -25,7 +25,9 @@ pub fn run_lines<H: Hasher16, R: Threads + Sync>(
     requires { IsSchedule schedule.now }
     ensures lines { IfOk result (λ l. l ≡ lines_of_run schedule.now) }
     ensures within { OnOk result (IsWithinMessages (run_of_schedule schedule.now.form schedule.now.peers schedule.now.view schedule.now.events)) }
-    ensures error { IfErr result (MayRefuse (account H.kept H.clashes H.fulls hasher.old) (run_of_schedule schedule.now.form schedule.now.peers schedule.now.view schedule.now.events) (account H.kept H.clashes H.fulls hasher.new)) }
+    ensures error { IfErr result (MayRefuse (account H.kept H.clashes H.fulls hasher.old)
+        (run_of_schedule schedule.now.form schedule.now.peers schedule.now.view schedule.now.events)
+        (account H.kept H.clashes H.fulls hasher.new)) }
 {
     let mut world = World::open(rt, alloc, schedule, hasher)?;
     let mut lines = Lines::new(alloc);

@@ -4,18 +4,18 @@ use Rattle.std.proofs.Common.{◌≡◌, ◌≤◌, ◌<◌, ◌∙◌, ◌+◌,
 use Rattle.std.proofs.lemmas.List.{map-append, length-append, take_all}
 use Rattle.ens_base.specs.Lists.{same_bytes}
 use Rattle.ens_base.proofs.Causes.{rose_later}
-use Rattle.ens_outside.specs.Links.{LinkCounts, Sends}
-use Rattle.ens_outside.specs.Told.{StaysTold}
-use Rattle.ens_outside.specs.declared.errors.LinkError.{LinkError}
-use Rattle.ens_outside.specs.declared.errors.LinkError.TheVariants as links
-use Rattle.cluster_spec.proofs.Mails.{posted_mail, posted_more, sent_after}
-use Rattle.cluster_spec.specs.Recordings.{frame_out}
-use Rattle.frame_index.proofs.Numbers.{posted_waits}
-use Rattle.frame_index.specs.Indexes.{Indexes, queue_at, waiting_numbers}
-use Rattle.frame_index.specs.declared.index.FrameIndex.{FrameIndex}
+use Rattle.environment.specs.Links.{LinkCounts, Sends}
+use Rattle.environment.specs.Told.{StaysTold}
+use Rattle.environment.specs.declared.errors.LinkError.{LinkError}
+use Rattle.environment.specs.declared.errors.LinkError.TheVariants as links
+use Rattle.cluster.proofs.Mails.{posted_mail, posted_more, sent_after}
+use Rattle.cluster.specs.Recordings.{frame_out}
+use Rattle.network.proofs.IndexNumbers.{posted_waits}
+use Rattle.network.specs.Indexes.{Indexes, queue_at, waiting_numbers}
+use Rattle.network.specs.declared.index.FrameIndex.{FrameIndex}
 use Rattle.network.specs.Mail.{most_messages}
-use Rattle.turn_spec.proofs.Following.{grew_more, grew_none}
-use Rattle.turn_spec.specs.Going.{Grew}
+use Rattle.peer_turns.proofs.Following.{grew_more, grew_none}
+use Rattle.peer_turns.specs.Going.{Grew}
 use Rattle.wire_frames.specs.Frames.{frame_spelling}
 use Rattle.wire_frames.specs.declared.frame.Frame.{Frame}
 use Rattle.world_model.specs.WorldSpec.{posted_all}
@@ -88,13 +88,13 @@ all_taken (suc i) (f ∷ frames) below = ap (λ (l : List Frame). f ∷ l) (all_
 module _ {L : Type 0} (sent : L → Option (List (ℕ × List ℕ))) (given : L → Option (List (Option (List ℕ)))) (faults : L → ℕ) where
   -- the message was not spelled, or not handed over
   pub unspelled : (frame : Frame) (a : L) → HandedSome sent given faults links.Memory (frame ∷ []) a a
-  unspelled frame a = record { front = []; rest = frame ∷ []; all = refl; sends = grew_none (sent a); looked = grew_none (given a); later = omega arith; cause = λ same. absurd cc }
+  unspelled frame a = record { prefix = []; rest = frame ∷ []; all = refl; sends = grew_none (sent a); looked = grew_none (given a); later = omega arith; cause = λ same. absurd cc }
 
   pub unsent : (T : Type 0) (frame : Frame) (bytes : List ℕ) (a b : L) (e : LinkError) → Sends {T = T} (sent a) (sent b) frame.to bytes (Err e) → StaysTold (given a) (given b) → LinkCounts {T = T} (faults a) (faults b) (Err e)
       → HandedSome sent given faults e (frame ∷ []) a b
-  unsent T frame bytes a b links.Failed sends stays counts = record { front = []; rest = frame ∷ []; all = refl; sends = kept_grew T (sent a) (sent b) frame.to bytes links.Failed sends; looked = stays_grew (given a) (given b) stays; later = counts.0; cause = λ same. counts.1 }
+  unsent T frame bytes a b links.Failed sends stays counts = record { prefix = []; rest = frame ∷ []; all = refl; sends = kept_grew T (sent a) (sent b) frame.to bytes links.Failed sends; looked = stays_grew (given a) (given b) stays; later = counts.0; cause = λ same. counts.1 }
   unsent T frame bytes a b links.Memory sends stays counts = record {
-    front = [];
+    prefix = [];
     rest = frame ∷ [];
     all = refl;
     sends = kept_grew T (sent a) (sent b) frame.to bytes links.Memory sends;
@@ -107,7 +107,7 @@ module _ {L : Type 0} (sent : L → Option (List (ℕ × List ℕ))) (given : L 
   pub unindexed : {T : Type 0} (frame : Frame) (bytes : List ℕ) (a b : L) (x : T) → bytes ≡ frame_spelling frame → Sends (sent a) (sent b) frame.to bytes (Ok x) → StaysTold (given a) (given b) → LinkCounts {T = T} (faults a) (faults b) (Ok x)
       → HandedSome sent given faults links.Memory (frame ∷ []) a b
   unindexed frame bytes a b x spelled sends stays counts = record {
-    front = frame ∷ [];
+    prefix = frame ∷ [];
     rest = [];
     all = refl;
     sends = subst (λ (l : List ℕ). Grew (sent a) (sent b) ((frame.to, l) ∷ [])) spelled (handed_grew (sent a) (sent b) frame.to bytes x sends);
@@ -148,10 +148,10 @@ module _ {L : Type 0} (sent : L → Option (List (ℕ × List ℕ))) (given : L 
 
   broke_on : (xs ys more : List Frame) (number : ℕ) (a b c : L) (i j : FrameIndex) (e : LinkError) → HandedAll sent given faults xs number a i j b → HandedSome sent given faults e ys b c → HandedSome sent given faults e (xs ++ (ys ++ more)) a c
   broke_on xs ys more number a b c i j e first second = record {
-    front = xs ++ second.front;
+    prefix = xs ++ second.prefix;
     rest = second.rest ++ more;
-    all = ap (λ (l : List Frame). xs ++ (l ++ more)) second.all ∙ ap (λ (l : List Frame). xs ++ l) (append_assoc second.front second.rest more) ∙ sym (append_assoc xs second.front (second.rest ++ more));
-    sends = both_sent xs second.front a b c first.sends second.sends;
+    all = ap (λ (l : List Frame). xs ++ (l ++ more)) second.all ∙ ap (λ (l : List Frame). xs ++ l) (append_assoc second.prefix second.rest more) ∙ sym (append_assoc xs second.prefix (second.rest ++ more));
+    sends = both_sent xs second.prefix a b c first.sends second.sends;
     looked = both_none a b c first.looked second.looked;
     later = omega (arith, first.later, second.later);
     cause = λ same. rose_later (faults a) (faults b) (faults c) first.later (second.cause same);

@@ -1,3 +1,8 @@
+pub mod Recorded
+pub mod Mails
+pub mod Delivering
+pub mod Following
+pub mod Schedules
 pub mod Handing
 pub mod Stepping
 pub mod Reaching

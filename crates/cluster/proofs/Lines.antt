@@ -5,14 +5,14 @@ use Rattle.std.specs.Prelude.{IsErrAnd}
 use Rattle.std.specs.Vec.Iter.{into_iter_items, into_iter_len}
 use Rattle.std.specs.declared.vec.IntoIter.{IntoIter}
 use Rattle.ens_base.specs.declared.peer_words.ClusterWords.{ClusterWords}
-use Rattle.cluster_script.specs.Scripts.{AllMayBeLines, MayBeLine}
-use Rattle.cluster_script.specs.declared.line.ScriptLine.{ScriptLine}
-use Rattle.cluster_script.specs.declared.line.ScriptLine.TheVariants.{Event, Turn}
-use Rattle.cluster_spec.proofs.Following.{Leads, all_looks, drop_front, few_looks, take_front, leads_follows, leads_none, leads_on, part_after, part_of_first, turn_alone, turn_leads}
-use Rattle.cluster_spec.proofs.Delivering.{scripted_before, scripted_may}
-use Rattle.cluster_spec.specs.Messages.{MayBeRecorded, mail_before}
-use Rattle.cluster_spec.specs.Recordings.{Follows, IsPart, Recording, heard_all, recorded}
-use Rattle.world_model.specs.HeldStores.{Account}
+use Rattle.scripts.specs.Scripts.{AllMayBeLines, MayBeLine}
+use Rattle.scripts.specs.declared.line.ScriptLine.{ScriptLine}
+use Rattle.scripts.specs.declared.line.ScriptLine.TheVariants.{Event, Turn}
+use Rattle.cluster.proofs.Following.{Leads, all_looks, drop_prefix, few_looks, take_prefix, leads_follows, leads_none, leads_on, part_after, part_of_first, turn_alone, turn_leads}
+use Rattle.cluster.proofs.Delivering.{scripted_before, scripted_may}
+use Rattle.cluster.specs.Messages.{MayBeRecorded, mail_before}
+use Rattle.cluster.specs.Recordings.{Follows, IsPart, Recording, heard_all, recorded}
+use Rattle.world_model.specs.WorldSpec.{Account}
 use Rattle.network.specs.Mail.{Mail}
 use Rattle.schedule_text.specs.declared.event.ScheduleEvent.{ScheduleEvent}
 use Rattle.cluster.specs.Ends.{Looked, Went, opening}
@@ -86,12 +86,12 @@ module _ {L : Type 0} (sent : L → Option (List (ℕ × List ℕ))) (given : L 
       turn_on : (count : ℕ) (more extra : List (Option (List ℕ))) (part : List ScriptLine) (r s : Recording) (x y z : L) → length more ≡ count → s ≡ heard_all (take count more) r → Went sent given (Turn count ∷ []) more r x y → Went sent given part extra s y z
           → Went sent given (Turn count ∷ part) (more ++ extra) r x z
       turn_on count more extra part r s x y z many is went goes =
-          let front : take count more ≡ take count (more ++ extra) = all_looks count more many ∙ sym (ap (λ (n : ℕ). take n (more ++ extra)) (sym many) ∙ take_front more extra) in
-          let rest : extra ≡ drop count (more ++ extra) = sym (ap (λ (n : ℕ). drop n (more ++ extra)) (sym many) ∙ drop_front more extra) in (
+          let prefix : take count more ≡ take count (more ++ extra) = all_looks count more many ∙ sym (ap (λ (n : ℕ). take n (more ++ extra)) (sym many) ∙ take_prefix more extra) in
+          let rest : extra ≡ drop count (more ++ extra) = sym (ap (λ (n : ℕ). drop n (more ++ extra)) (sym many) ∙ drop_prefix more extra) in (
             went.0,
-            subst (λ (l : List (Option (List ℕ))). Looked sent given l r x went.0) front went.1,
+            subst (λ (l : List (Option (List ℕ))). Looked sent given l r x went.0) prefix went.1,
             subst (λ (l : List (Option (List ℕ))). Went sent given part l (heard_all (take count (more ++ extra)) r) went.0 z) rest
-                (subst (λ (q : Recording). Went sent given part extra q went.0 z) (is ∙ ap (λ (l : List (Option (List ℕ))). heard_all l r) front) (subst (λ (m : L). Went sent given part extra s m z) went.2 goes)),
+                (subst (λ (q : Recording). Went sent given part extra q went.0 z) (is ∙ ap (λ (l : List (Option (List ℕ))). heard_all l r) prefix) (subst (λ (m : L). Went sent given part extra s m z) went.2 goes)),
           )
 
   carries_on : (done lines : List ScriptLine) (looks more : List (Option (List ℕ))) (q r s : Recording) (x y z : L) → Carries done looks q r x y → Carries lines more r s y z → Carries (done ++ lines) (looks ++ more) q s x z

@@ -8,26 +8,25 @@ use Rattle.ens_base.specs.Causes.{Rose}
 use Rattle.ens_base.specs.Lists.{same_bytes}
 use Rattle.ens_base.specs.declared.peer_words.ClusterWords.{ClusterWords}
 use Rattle.ens_base.proofs.Lists.{bytes_same}
-use Rattle.ens_outside.specs.Links.{LinkCounts, Looks}
-use Rattle.ens_outside.specs.Told.{StaysTold, bytes_of}
-use Rattle.ens_outside.specs.declared.errors.LinkError.{LinkError}
-use Rattle.ens_outside.specs.declared.errors.LinkError.TheVariants as links
-use Rattle.cluster_spec.proofs.Following.{heard_more}
-use Rattle.cluster_spec.proofs.Recorded.{heard_none}
-use Rattle.cluster_spec.specs.Messages.{MayBeRecorded}
-use Rattle.cluster_spec.specs.Recordings.{Recording, delivering, found, frame_out, frames_of, heard, heard_all, recorded}
-use Rattle.frame_index.proofs.Numbers.{first_waits, settled_waits}
-use Rattle.frame_index.specs.Indexes.{Indexes, is_spelled, queue_at, waiting_numbers}
-use Rattle.frame_index.specs.declared.index.FrameIndex.{FrameIndex}
-use Rattle.world_model.specs.HeldStores.{Account}
+use Rattle.environment.specs.Links.{LinkCounts, Looks}
+use Rattle.environment.specs.Told.{StaysTold, bytes_of}
+use Rattle.environment.specs.declared.errors.LinkError.{LinkError}
+use Rattle.environment.specs.declared.errors.LinkError.TheVariants as links
+use Rattle.cluster.proofs.Following.{heard_more}
+use Rattle.cluster.proofs.Recorded.{heard_none}
+use Rattle.cluster.specs.Messages.{MayBeRecorded}
+use Rattle.cluster.specs.Recordings.{Recording, delivering, found, frame_out, frames_of, heard, heard_all, recorded}
+use Rattle.network.proofs.IndexNumbers.{first_waits, settled_waits}
+use Rattle.network.specs.Indexes.{Indexes, is_spelled, queue_at, waiting_numbers}
+use Rattle.network.specs.declared.index.FrameIndex.{FrameIndex}
+use Rattle.world_model.specs.WorldSpec.{Account, Run}
 use Rattle.network.proofs.MailLaws.{oldest_is_sent}
 use Rattle.network.specs.Mail.{Mail, oldest, settled}
 use Rattle.replay.specs.Worlds.{schedule_run}
 use Rattle.schedule_text.specs.declared.event.ScheduleEvent.TheVariants.{Deliver}
-use Rattle.turn_spec.proofs.Following.{grew_more}
-use Rattle.turn_spec.specs.Going.{Grew}
+use Rattle.peer_turns.proofs.Following.{grew_more}
+use Rattle.peer_turns.specs.Going.{Grew}
 use Rattle.wire_frames.specs.declared.frame.Frame.{Frame}
-use Rattle.world_model.specs.WorldSpec.{Run}
 use Rattle.cluster.specs.Ends.{Handed, Looked, frames_between}
 use Rattle.cluster.specs.Recorders.{Hears, IsInStep, Reached, Records, StopsAt, mail_in}
 use Rattle.cluster.specs.declared.recorder.Recorder.{Recorder}
@@ -154,7 +153,7 @@ module _ {L : Type 0} (sent : L → Option (List (ℕ × List ℕ))) (given : L 
   pub looks_failed : (c : Recorder) (link b : L) (mid : Account) (e : LinkError) → At looks r c link mid → Looks (given link) (given b) (Err e) → StaysTold (sent link) (sent b) → LinkCounts {T = Option (Vec ℕ Global)} (faults link) (faults b) (Err e)
       → StopsAt sent given faults w first a looks r (OfLink e) b mid
   looks_failed c link b mid e reached gave stays counts = record {
-    front = frames_of r.run;
+    prefix = frames_of r.run;
     rest = [];
     all = sym (append-nil (frames_of r.run));
     most = reached.grown;

@@ -6,35 +6,34 @@ use Rattle.ens_base.specs.Causes.{Rose}
 use Rattle.ens_base.specs.declared.peer_words.ClusterWords.{ClusterWords}
 use Rattle.ens_base.specs.declared.status.Status.{Status}
 use Rattle.ens_base.proofs.Statuses.{memory_no_fault}
-use Rattle.ens_hashing.specs.Hashing.{KeepsNothing}
-use Rattle.ens_outside.specs.declared.errors.LinkError.{LinkError}
-use Rattle.ens_outside.specs.declared.errors.LinkError.TheVariants as links
-use Rattle.cluster_script.specs.Scripts.{IsScript, ended, next_line, script_of}
-use Rattle.cluster_script.specs.declared.line.ScriptLine.{ScriptLine}
-use Rattle.cluster_script.specs.declared.read.ReadError.{ReadError}
-use Rattle.cluster_script.specs.declared.read.ReadError.TheVariants as read
-use Rattle.cluster_spec.proofs.Following.{part_whole}
-use Rattle.cluster_spec.proofs.Schedules.{recorded_is, recorded_sound}
-use Rattle.cluster_spec.specs.Messages.{AllRecorded}
-use Rattle.cluster_spec.specs.Recordings.{Follows, IsPart, Recording, frames_of}
-use Rattle.world_model.specs.HeldStores.{Account, HasHashed, HasNoClash}
-use Rattle.line_reading.specs.Counting.{WasCutOff, WasTakenTo}
-use Rattle.line_reading.proofs.Counting.{taken_none}
+use Rattle.hash_book.specs.Hashing.{KeepsNothing}
+use Rattle.environment.specs.declared.errors.LinkError.{LinkError}
+use Rattle.environment.specs.declared.errors.LinkError.TheVariants as links
+use Rattle.scripts.specs.Scripts.{IsScript, ended, next_line, script_of}
+use Rattle.scripts.specs.declared.line.ScriptLine.{ScriptLine}
+use Rattle.scripts.specs.declared.cluster_read.ReadError.{ReadError}
+use Rattle.scripts.specs.declared.cluster_read.ReadError.TheVariants as read
+use Rattle.cluster.proofs.Following.{part_whole}
+use Rattle.cluster.proofs.Schedules.{recorded_is, recorded_sound}
+use Rattle.cluster.specs.Messages.{AllRecorded}
+use Rattle.cluster.specs.Recordings.{Follows, IsPart, Recording, frames_of}
+use Rattle.world_model.specs.WorldSpec.{Account, HasHashed, HasNoClash, IsWithinMessages, Run}
+use Rattle.schedule_input.specs.Counting.{WasCutOff, WasTakenTo}
+use Rattle.schedule_input.proofs.Counting.{taken_none}
 use Rattle.replay.proofs.Endings.{book_ends, clash_ends, limit_ends, run_done}
 use Rattle.replay.specs.Jobs.{clash_line, hashed_by}
 use Rattle.replay.specs.Stops.{StopsIn}
 use Rattle.replay.specs.Text.{IsTextOfRun, record_text}
 use Rattle.replay.specs.Worlds.{schedule_run}
-use Rattle.schedule_premise.specs.Premise.{first_unsound}
+use Rattle.schedule_input.specs.Premise.{first_unsound}
 use Rattle.schedule_text.proofs.SchedulesAgain.{schedule_of-text}
 use Rattle.schedule_text.specs.Reading.{schedule_of}
 use Rattle.schedule_text.specs.Spelling.{IsSchedule, schedule_text}
 use Rattle.schedule_text.specs.declared.schedule.Schedule.{Schedule}
-use Rattle.turn_spec.proofs.Following.{grew_none}
+use Rattle.peer_turns.proofs.Following.{grew_none}
 use Rattle.world_model.specs.Worlds.{run_of}
 use Rattle.world_model.specs.declared.error.WorldError.{WorldError}
 use Rattle.world_model.specs.declared.error.WorldError.TheVariants as worlds
-use Rattle.world_model.specs.WorldSpec.{IsWithinMessages, Run}
 use Rattle.cluster.specs.Endings.{IsStopText, IsUnread}
 use Rattle.cluster.specs.Ends.{BrokenOff, CameThere, Ends, Handed, HasRead, IsCluster, Recorded, ReplaysAs, RunEnds, Stopped, frames_before, opening, recorded_schedule}
 use Rattle.cluster.specs.Recorders.{IsOpened, IsUnopened, Reached, RecordsAll, StopsAt, StopsInLink, StopsInWorld}
@@ -113,7 +112,7 @@ module _ {L : Type 0} (sent : L → Option (List (ℕ × List ℕ))) (given : L 
         looks = all.1.0;
         r = r;
         follows = all.1.2;
-        front = frames_of r.run;
+        prefix = frames_of r.run;
         rest = [];
         all = sym (append-nil (frames_of r.run));
         most = all.1.3.grown;
@@ -170,7 +169,7 @@ module _ {L : Type 0} (sent : L → Option (List (ℕ × List ℕ))) (given : L 
         looks = looks;
         r = r;
         follows = follows;
-        front = stop.front;
+        prefix = stop.prefix;
         rest = stop.rest;
         all = stop.all;
         most = stop.most;

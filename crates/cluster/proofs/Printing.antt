@@ -3,11 +3,11 @@ use Rattle.std.proofs.Common.{◌≡◌, ℕ, List, [], ◌∷◌, ◌++◌, cod
 use Rattle.std.specs.Prelude.{IfOk}
 use Rattle.std.proofs.lemmas.Result.{IfOk-weaker}
 use Rattle.ens_base.specs.declared.status.Status.{Status}
-use Rattle.ens_outside.specs.declared.errors.LinkError.{LinkError}
-use Rattle.ens_outside.specs.declared.errors.LinkError.TheVariants as links
-use Rattle.cluster_script.specs.Reading.{Refuses}
-use Rattle.cluster_script.specs.declared.read.ReadError.{ReadError}
-use Rattle.cluster_script.specs.declared.read.ReadError.TheVariants as read
+use Rattle.environment.specs.declared.errors.LinkError.{LinkError}
+use Rattle.environment.specs.declared.errors.LinkError.TheVariants as links
+use Rattle.scripts.specs.ClusterReading.{Refuses}
+use Rattle.scripts.specs.declared.cluster_read.ReadError.{ReadError}
+use Rattle.scripts.specs.declared.cluster_read.ReadError.TheVariants as read
 use Rattle.replay.specs.Jobs.{clash_line}
 use Rattle.schedule_input.specs.Endings.{bad_line}
 use Rattle.schedule_input.specs.declared.ending.Ending.{Ending}

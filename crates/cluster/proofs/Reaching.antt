@@ -4,45 +4,44 @@ use Rattle.std.specs.Prelude.{IsErrAnd}
 use Rattle.std.proofs.lemmas.List.{map-append}
 use Rattle.ens_base.specs.Causes.{Rose}
 use Rattle.ens_base.specs.declared.peer_words.ClusterWords.{ClusterWords}
-use Rattle.ens_outside.specs.declared.errors.LinkError.{LinkError}
-use Rattle.cluster_spec.proofs.Recorded.{recorded_run}
-use Rattle.cluster_spec.specs.Messages.{AllRecorded, MayBeRecorded, mail_before}
-use Rattle.cluster_spec.specs.Recordings.{Recording, frame_out, frames_of, recorded, recorded_form}
-use Rattle.frame_index.specs.declared.index.FrameIndex.{FrameIndex}
-use Rattle.world_model.specs.HeldStores.{Account, HasHashed}
+use Rattle.environment.specs.declared.errors.LinkError.{LinkError}
+use Rattle.cluster.proofs.Recorded.{recorded_run}
+use Rattle.cluster.specs.Messages.{AllRecorded, MayBeRecorded, mail_before}
+use Rattle.cluster.specs.Recordings.{Recording, frame_out, frames_of, recorded, recorded_form}
+use Rattle.network.specs.declared.index.FrameIndex.{FrameIndex}
+use Rattle.world_model.specs.WorldSpec.{Account, HasHashed, applied, run_of_schedule, IsWithinMessages, Run, unhashed}
 use Rattle.replay.proofs.Stops.{Doing, doing_last, doing_next, stops}
 use Rattle.replay.specs.Stops.{run_after}
 use Rattle.replay.specs.Worlds.{schedule_run}
 use Rattle.schedule_text.specs.declared.event.ScheduleEvent.{ScheduleEvent}
 use Rattle.schedule_text.specs.declared.schedule.Schedule.{Schedule}
-use Rattle.turn_spec.proofs.Following.{grew_more}
-use Rattle.turn_spec.specs.Going.{Grew}
+use Rattle.peer_turns.proofs.Following.{grew_more}
+use Rattle.peer_turns.specs.Going.{Grew}
 use Rattle.wire_frames.specs.declared.frame.Frame.{Frame}
 use Rattle.world_model.specs.Turns.{StopsAmong, turn, turns_of}
 use Rattle.world_model.specs.Worlds.{run_of}
 use Rattle.world_model.specs.declared.error.WorldError.{WorldError}
 use Rattle.world_model.specs.declared.world.World.{World}
-use Rattle.world_model.specs.WorldSpec.{applied, run_of_schedule, IsWithinMessages, Run, unhashed}
 use Rattle.cluster.specs.Ends.{CameThere, Handed, frames_before, frames_between, recorded_schedule, run_before, without_last}
 use Rattle.cluster.specs.Recorders.{IsInStep, Reached, Records, StopsAt, mail_in}
 use Rattle.cluster.specs.Sending.{HandedAll, HandedSome}
 use Rattle.cluster.specs.declared.recorder.Recorder.{Recorder}
 use Rattle.cluster.specs.declared.stop.Stop.{Stop}
 use Rattle.cluster.specs.declared.stop.Stop.TheVariants.{Lines, World as OfWorld, Link as OfLink}
-use Rattle.cluster.proofs.Stepping.{and_event, drop_front, frames_now, many_peers, sent_now, stands_recorded}
+use Rattle.cluster.proofs.Stepping.{and_event, drop_prefix, frames_now, many_peers, sent_now, stands_recorded}
 
 without_the_last : (xs : List ScheduleEvent) (x : ScheduleEvent) → without_last (xs ++ x ∷ []) ≡ xs
 without_the_last [] x = refl
 without_the_last (y ∷ []) x = refl
 without_the_last (y ∷ z ∷ xs) x = ap (λ (l : List ScheduleEvent). y ∷ l) (without_the_last (z ∷ xs) x)
 
-take_front : (xs ys : List ScheduleEvent) → take (length xs) (xs ++ ys) ≡ xs
-take_front [] ys = refl
-take_front (x ∷ xs) ys = ap (λ (l : List ScheduleEvent). x ∷ l) (take_front xs ys)
+take_prefix : (xs ys : List ScheduleEvent) → take (length xs) (xs ++ ys) ≡ xs
+take_prefix [] ys = refl
+take_prefix (x ∷ xs) ys = ap (λ (l : List ScheduleEvent). x ∷ l) (take_prefix xs ys)
 
-at_front : (xs : List ScheduleEvent) (x : ScheduleEvent) → slice_get (xs ++ x ∷ []) (length xs) ≡ Some x
-at_front [] x = refl
-at_front (y ∷ xs) x = at_front xs x
+at_prefix : (xs : List ScheduleEvent) (x : ScheduleEvent) → slice_get (xs ++ x ∷ []) (length xs) ≡ Some x
+at_prefix [] x = refl
+at_prefix (y ∷ xs) x = at_prefix xs x
 
 module _ {L : Type 0} (sent : L → Option (List (ℕ × List ℕ))) (given : L → Option (List (Option (List ℕ)))) (faults : L → ℕ)
     (w : ClusterWords) (first : Account) (a : L) where
@@ -92,7 +91,7 @@ module _ {L : Type 0} (sent : L → Option (List (ℕ × List ℕ))) (given : L 
         due = recorded_schedule w next
 
         run_at : run_after due (take (length r.events) due.events) ≡ r.run
-        run_at = ap (run_of_schedule recorded_form w.peers w.view) (take_front r.events (event ∷ [])) ∙ sym reached.is
+        run_at = ap (run_of_schedule recorded_form w.peers w.view) (take_prefix r.events (event ∷ [])) ∙ sym reached.is
 
         doing : Doing due (length r.events) first (run_of c.world) mid
         doing = record {
@@ -111,7 +110,7 @@ module _ {L : Type 0} (sent : L → Option (List (ℕ × List ℕ))) (given : L 
         -- the world refused the event
         pub stops_world : (now : Account) (e : WorldError) → StopsAmong (turns_of event) (turn event) (run_of c.world) mid now e → StopsAt sent given faults w first a looks next (OfWorld e) link now
         stops_world now e refused = record {
-          stops = stops due (length r.events) first (run_of c.world) mid event (at_front r.events event) doing now e refused;
+          stops = stops due (length r.events) first (run_of c.world) mid event (at_prefix r.events event) doing now e refused;
           stand = recorded_all;
           few = recorded_few;
           came = came step.within;
@@ -128,13 +127,13 @@ module _ {L : Type 0} (sent : L → Option (List (ℕ × List ℕ))) (given : L 
 
           took_all : HasHashed next.run.hashed first now
           took_all =
-              let all = doing_last due (length r.events + 1) first (run_of world) now (omega (arith, length-append r.events (event ∷ []))) (doing_next due (length r.events) first (run_of c.world) mid event (at_front r.events event) doing (run_of world) now is within has) in
+              let all = doing_last due (length r.events + 1) first (run_of world) now (omega (arith, length-append r.events (event ∷ []))) (doing_next due (length r.events) first (run_of c.world) mid event (at_prefix r.events event) doing (run_of world) now is within has) in
               subst (λ (v : Run). HasHashed v.hashed first now) (sym run_next) all.2
 
           -- the messages of the run are those before and these
           next_sent : next.run.mail.sent ≡ r.run.mail.sent ++ frames
           next_sent =
-              let now_sent : (run_of world).mail.sent ≡ next.run.mail.sent = ap (λ (v : Run). v.mail.sent) ((doing_last due (length r.events + 1) first (run_of world) now (omega (arith, length-append r.events (event ∷ []))) (doing_next due (length r.events) first (run_of c.world) mid event (at_front r.events event) doing (run_of world) now is within has)).0 ∙ ap unhashed (sym run_next)) in
+              let now_sent : (run_of world).mail.sent ≡ next.run.mail.sent = ap (λ (v : Run). v.mail.sent) ((doing_last due (length r.events + 1) first (run_of world) now (omega (arith, length-append r.events (event ∷ []))) (doing_next due (length r.events) first (run_of c.world) mid event (at_prefix r.events event) doing (run_of world) now is within has)).0 ∙ ap unhashed (sym run_next)) in
               let behind : (run_of world).mail.sent ≡ (mail_in c).sent ++ frames = sent_now c event step may world is within ∙ ap (λ (l : List Frame). (mail_in c).sent ++ l) (sym (frames_now c event step may world is within)) in
               sym now_sent ∙ behind ∙ ap (λ (v : Run). v.mail.sent ++ frames) run_is
 
@@ -142,7 +141,7 @@ module _ {L : Type 0} (sent : L → Option (List (ℕ × List ℕ))) (given : L 
           frames_are = ap (λ (l : List Frame). map frame_out l) next_sent ∙ map-append frame_out r.run.mail.sent frames
 
           between_are : frames_between r next ≡ map frame_out frames
-          between_are = ap (λ (l : List Frame). map frame_out (drop (length r.run.mail.sent) l)) next_sent ∙ ap (λ (l : List Frame). map frame_out l) (drop_front r.run.mail.sent frames)
+          between_are = ap (λ (l : List Frame). map frame_out (drop (length r.run.mail.sent) l)) next_sent ∙ ap (λ (l : List Frame). map frame_out l) (drop_prefix r.run.mail.sent frames)
 
           -- these were handed over
           pub hands_next : (number : ℕ) (index : FrameIndex) (b : L) → HandedAll sent given faults frames number link c.index index b → Handed sent given [] (frames_between r next) link b
@@ -166,17 +165,17 @@ module _ {L : Type 0} (sent : L → Option (List (ℕ × List ℕ))) (given : L 
             later = omega (arith, reached.later, handed.later);
           }
 
-          -- a front of them was handed over
+          -- a prefix of them was handed over
           pub stops_link : (e : LinkError) (b : L) → HandedSome sent given faults e frames link b → StopsAt sent given faults w first a looks next (OfLink e) b now
           stops_link e b some = record {
-            front = frames_of r.run ++ map frame_out some.front;
+            prefix = frames_of r.run ++ map frame_out some.prefix;
             rest = map frame_out some.rest;
-            all = frames_are ∙ ap (λ (l : List Frame). frames_of r.run ++ map frame_out l) some.all ∙ ap (λ (l : List (ℕ × List ℕ)). frames_of r.run ++ l) (map-append frame_out some.front some.rest)
-                ∙ sym (append_assoc (frames_of r.run) (map frame_out some.front) (map frame_out some.rest));
-            most = grown_to (frames_of r.run ++ map frame_out some.front) (map frame_out some.front) refl;
+            all = frames_are ∙ ap (λ (l : List Frame). frames_of r.run ++ map frame_out l) some.all ∙ ap (λ (l : List (ℕ × List ℕ)). frames_of r.run ++ l) (map-append frame_out some.prefix some.rest)
+                ∙ sym (append_assoc (frames_of r.run) (map frame_out some.prefix) (map frame_out some.rest));
+            most = grown_to (frames_of r.run ++ map frame_out some.prefix) (map frame_out some.prefix) refl;
             handed = record {
               looked = subst (λ (l : List (Option (List ℕ))). Grew (given a) (given b) l) (append-nil looks) (grew_more (given a) (given link) (given b) looks [] reached.handed.looked some.looked);
-              sends = grew_more (sent a) (sent link) (sent b) (frames_of r.run) (map frame_out some.front) reached.handed.sends some.sends;
+              sends = grew_more (sent a) (sent link) (sent b) (frames_of r.run) (map frame_out some.prefix) reached.handed.sends some.sends;
             };
             cause = λ same. rose_on (faults a) (faults link) (faults b) reached.later (some.cause same);
           }

@@ -3,15 +3,14 @@ use Rattle.std.proofs.Common.{◌≡◌, ◌≤◌, ◌<◌, ◌+◌, ◌∙◌,
 use Rattle.std.specs.Prelude.{nat_le}
 use Rattle.std.proofs.lemmas.Bool.Decides.{nat_tests}
 use Rattle.ens_base.specs.declared.peer_words.ClusterWords.{ClusterWords}
-use Rattle.ens_outside.specs.declared.errors.LinkError.{LinkError}
-use Rattle.cluster_spec.specs.Messages.{MayBeRecorded, mail_before}
-use Rattle.cluster_spec.specs.Recordings.{Recording, recorded}
-use Rattle.frame_index.specs.declared.index.FrameIndex.{FrameIndex}
-use Rattle.world_model.specs.HeldStores.{Account}
+use Rattle.environment.specs.declared.errors.LinkError.{LinkError}
+use Rattle.cluster.specs.Messages.{MayBeRecorded, mail_before}
+use Rattle.cluster.specs.Recordings.{Recording, recorded}
+use Rattle.network.specs.declared.index.FrameIndex.{FrameIndex}
+use Rattle.world_model.specs.WorldSpec.{Account, Run}
 use Rattle.schedule_text.specs.declared.event.ScheduleEvent.{ScheduleEvent}
 use Rattle.wire_frames.specs.declared.frame.Frame.{Frame}
 use Rattle.world_model.specs.Worlds.{run_of}
-use Rattle.world_model.specs.WorldSpec.{Run}
 use Rattle.cluster.specs.Recorders.{Applied, Applies, IsInStep, Reached, Records, StopsAt, mail_in}
 use Rattle.cluster.specs.Sending.{AddsTo, HandedAll, HandedSome}
 use Rattle.cluster.specs.declared.recorder.Recorder.{Recorder}

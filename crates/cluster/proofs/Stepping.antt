@@ -3,11 +3,11 @@ use Rattle.std.proofs.Common.{◌≡◌, ◌≤◌, ◌<◌, ◌+◌, ◌∙◌,
 use Rattle.std.specs.Prelude.{IfErr, IsErrAnd}
 use Rattle.std.proofs.lemmas.List.{length-map, length-replicate}
 use Rattle.ens_base.specs.declared.peer_words.ClusterWords.{ClusterWords}
-use Rattle.cluster_spec.specs.Recordings.{recorded_form}
-use Rattle.cluster_spec.proofs.Mails.{Posts, applied_posts, mail_before_is, posted_mail, sent_after, sent_before}
-use Rattle.cluster_spec.specs.Messages.{AllRecorded, IsRecorded, MayBeRecorded, mail_before}
-use Rattle.frame_index.specs.Indexes.{Indexes, queue_at}
-use Rattle.world_model.specs.HeldStores.{Account}
+use Rattle.cluster.specs.Recordings.{recorded_form}
+use Rattle.cluster.proofs.Mails.{Posts, applied_posts, mail_before_is, posted_mail, sent_after, sent_before}
+use Rattle.cluster.specs.Messages.{AllRecorded, IsRecorded, MayBeRecorded, mail_before}
+use Rattle.network.specs.Indexes.{Indexes, queue_at}
+use Rattle.world_model.specs.WorldSpec.{Account, applied, IsWithinMessages, Run, opening_run, posted_all, unhashed}
 use Rattle.network.specs.Mail.{IsMail, Mail, most_messages}
 use Rattle.replay.proofs.Stops.{after_strings, opening_stops}
 use Rattle.replay.specs.Text.{record_text}
@@ -25,7 +25,6 @@ use Rattle.world_model.specs.Worlds.{run_of}
 use Rattle.world_model.specs.declared.error.WorldError.{WorldError}
 use Rattle.world_model.specs.declared.world.World.{World}
 use Rattle.world_model.proofs.WorldSpec.{applied_same, peers_in, run_to_last}
-use Rattle.world_model.specs.WorldSpec.{applied, IsWithinMessages, Run, opening_run, posted_all, unhashed}
 use Rattle.cluster.specs.Ends.{opening, recorded_schedule}
 use Rattle.cluster.specs.Recorders.{Applies, IsInStep, IsUnopened, mail_in}
 use Rattle.cluster.specs.Sending.{AddsTo}
@@ -67,9 +66,9 @@ all_with peers (e ∷ events) event all may = (all.0, all_with peers events even
 
 -- ---- the messages that the event sent are those behind the ones before
 
-pub drop_front : (xs ys : List Frame) → drop (length xs) (xs ++ ys) ≡ ys
-drop_front [] ys = refl
-drop_front (x ∷ xs) ys = drop_front xs ys
+pub drop_prefix : (xs ys : List Frame) → drop (length xs) (xs ++ ys) ≡ ys
+drop_prefix [] ys = refl
+drop_prefix (x ∷ xs) ys = drop_prefix xs ys
 
 module _ (c : Recorder) (event : ScheduleEvent) (step : IsInStep c (mail_before event (mail_in c))) (may : MayBeRecorded c.schedule.peers (mail_in c) event) where
   -- the event may be applied
@@ -106,7 +105,7 @@ module _ (c : Recorder) (event : ScheduleEvent) (step : IsInStep c (mail_before 
         ∙ ap (λ (l : List Frame). l ++ posts.frames) (sent_before event (mail_in c))
 
     pub frames_now : drop (length (mail_in c).sent) (run_of world).mail.sent ≡ posts.frames
-    frames_now = ap (λ (l : List Frame). drop (length (mail_in c).sent) l) sent_now ∙ drop_front (mail_in c).sent posts.frames
+    frames_now = ap (λ (l : List Frame). drop (length (mail_in c).sent) l) sent_now ∙ drop_prefix (mail_in c).sent posts.frames
 
     mail_is : IsMail (mail_before event (mail_in c))
     mail_is = mail_before_is event (mail_in c) step.mail

@@ -1,10 +1,10 @@
 -- The texts with which a cluster ends that was stopped.
 use Rattle.std.specs.Prelude.{◌≡◌, ℕ, List, [], ◌∷◌, ◌++◌, codes, Option, Err, IfSome}
 use Rattle.ens_base.specs.declared.status.Status.{Status}
-use Rattle.ens_outside.specs.declared.errors.LinkError.TheVariants as links
-use Rattle.cluster_script.specs.Scripts.{script_of}
-use Rattle.cluster_script.specs.declared.read.ReadError.{ReadError}
-use Rattle.cluster_script.specs.declared.read.ReadError.TheVariants as read
+use Rattle.environment.specs.declared.errors.LinkError.TheVariants as links
+use Rattle.scripts.specs.Scripts.{script_of}
+use Rattle.scripts.specs.declared.cluster_read.ReadError.{ReadError}
+use Rattle.scripts.specs.declared.cluster_read.ReadError.TheVariants as read
 use Rattle.replay.specs.Jobs.{clash_line}
 use Rattle.schedule_input.specs.Endings.{bad_line}
 use Rattle.schedule_text.specs.declared.error.ScheduleError.TheVariants as schedule

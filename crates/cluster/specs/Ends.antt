@@ -5,21 +5,20 @@ use Rattle.ens_base.specs.Causes.{Rose}
 use Rattle.ens_base.specs.View.{IsView}
 use Rattle.ens_base.specs.declared.peer_words.ClusterWords.{ClusterWords}
 use Rattle.ens_base.specs.declared.status.Status.{Status}
-use Rattle.cluster_script.specs.Scripts.{IsScript, ended, next_line, script_of}
-use Rattle.cluster_script.specs.declared.line.ScriptLine.{ScriptLine}
-use Rattle.cluster_script.specs.declared.line.ScriptLine.TheVariants.{Event, Turn}
-use Rattle.cluster_spec.specs.Recordings.{Follows, IsPart, Recording, frame_out, frames_of, heard, heard_all, nothing_recorded, recorded, recorded_form}
-use Rattle.world_model.specs.HeldStores.{Account, HasHashed}
-use Rattle.line_reading.specs.Counting.{WasCutOff, WasTakenTo}
+use Rattle.scripts.specs.Scripts.{IsScript, ended, next_line, script_of}
+use Rattle.scripts.specs.declared.line.ScriptLine.{ScriptLine}
+use Rattle.scripts.specs.declared.line.ScriptLine.TheVariants.{Event, Turn}
+use Rattle.cluster.specs.Recordings.{Follows, IsPart, Recording, frame_out, frames_of, heard, heard_all, nothing_recorded, recorded, recorded_form}
+use Rattle.world_model.specs.WorldSpec.{Account, HasHashed, run_of_schedule, IsWithinMessages, Run}
+use Rattle.schedule_input.specs.Counting.{WasCutOff, WasTakenTo}
 use Rattle.replay.specs.Jobs.{PrintsWith, nothing_hashed}
 use Rattle.replay.specs.Text.{record_text}
 use Rattle.schedule_input.specs.Endings.{bad_line}
 use Rattle.schedule_text.specs.Spelling.{IsSchedule, schedule_text}
 use Rattle.schedule_text.specs.declared.error.ScheduleError.TheVariants as schedule
 use Rattle.schedule_text.specs.declared.schedule.Schedule.{Schedule}
-use Rattle.schedule_words.specs.Spelling.{AreMembers}
-use Rattle.turn_spec.specs.Going.{Grew}
-use Rattle.world_model.specs.WorldSpec.{run_of_schedule, IsWithinMessages, Run}
+use Rattle.lexemes.specs.Spelling.{AreMembers}
+use Rattle.peer_turns.specs.Going.{Grew}
 
 -- 1 to 31 peers, and a view of them
 pub record IsCluster (w : ClusterWords) : Type 0 where
@@ -142,7 +141,7 @@ module _ {L : Type 0} (sent : L → Option (List (ℕ × List ℕ))) (given : L 
     pub came : CameThere first w r
     pub handed : Handed looks (frames_before w r) a b
 
-  -- A part of the script was followed, and a front of the messages of its run was handed to the link: all that
+  -- A part of the script was followed, and a prefix of the messages of its run was handed to the link: all that
   -- were sent before the line that was recorded last, and maybe some of this line.
   pub record BrokenOff (w : ClusterWords) (script : List ScriptLine) (a b : L) : Type 0 where
     pub part : List ScriptLine
@@ -150,11 +149,11 @@ module _ {L : Type 0} (sent : L → Option (List (ℕ × List ℕ))) (given : L 
     pub looks : List (Option (List ℕ))
     pub r : Recording
     pub follows : Follows part looks (opening w) r
-    pub front : List (ℕ × List ℕ)
+    pub prefix : List (ℕ × List ℕ)
     pub rest : List (ℕ × List ℕ)
-    pub all : frames_of r.run ≡ front ++ rest
-    pub most : length (frames_before w r) ≤ length front
-    pub handed : Handed looks front a b
+    pub all : frames_of r.run ≡ prefix ++ rest
+    pub most : length (frames_before w r) ≤ length prefix
+    pub handed : Handed looks prefix a b
 
 -- how a cluster ends that read no script: the link is as it was
 abbrev pub Unread : {L : Type 0} → ClusterWords → Option (List ℕ) → L → L → Status → List ℕ → Type 0

@@ -1,3 +1,5 @@
+pub mod Messages
+pub mod Recordings
 pub mod Endings
 pub mod Ends
 pub mod Recorders

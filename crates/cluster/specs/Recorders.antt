@@ -2,13 +2,13 @@
 use Rattle.std.specs.Prelude.{◌≡◌, ◌≤◌, ◌+◌, ℕ, List, [], ◌∷◌, ◌++◌, length, Option, Result, Ok, Err}
 use Rattle.ens_base.specs.Causes.{Rose}
 use Rattle.ens_base.specs.declared.peer_words.ClusterWords.{ClusterWords}
-use Rattle.ens_outside.specs.declared.errors.LinkError.{LinkError}
-use Rattle.ens_outside.specs.declared.errors.LinkError.TheVariants.{Failed}
-use Rattle.cluster_script.specs.declared.line.ScriptLine.{ScriptLine}
-use Rattle.cluster_spec.specs.Messages.{AllRecorded}
-use Rattle.cluster_spec.specs.Recordings.{Follows, IsPart, IsRunOf, Recording, frames_of, heard_all, recorded}
-use Rattle.frame_index.specs.Indexes.{Indexes}
-use Rattle.world_model.specs.HeldStores.{Account, HasHashed}
+use Rattle.environment.specs.declared.errors.LinkError.{LinkError}
+use Rattle.environment.specs.declared.errors.LinkError.TheVariants.{Failed}
+use Rattle.scripts.specs.declared.line.ScriptLine.{ScriptLine}
+use Rattle.cluster.specs.Messages.{AllRecorded}
+use Rattle.cluster.specs.Recordings.{Follows, IsPart, IsRunOf, Recording, frames_of, heard_all, recorded}
+use Rattle.network.specs.Indexes.{Indexes}
+use Rattle.world_model.specs.WorldSpec.{Account, HasHashed, applied, IsWithinMessages, unhashed}
 use Rattle.network.specs.Mail.{IsMail, Mail}
 use Rattle.replay.specs.Stops.{StopsIn}
 use Rattle.replay.specs.Worlds.{schedule_run}
@@ -16,7 +16,6 @@ use Rattle.schedule_text.specs.declared.event.ScheduleEvent.{ScheduleEvent}
 use Rattle.world_model.specs.Turns.{StopsAmong, turn, turns_of}
 use Rattle.world_model.specs.Worlds.{run_of}
 use Rattle.world_model.specs.declared.error.WorldError.{WorldError}
-use Rattle.world_model.specs.WorldSpec.{applied, IsWithinMessages, unhashed}
 use Rattle.cluster.specs.Ends.{CameThere, Handed, IsPastLines, Looked, Went, frames_before, frames_between, opening, recorded_schedule}
 use Rattle.cluster.specs.declared.recorder.Recorder.{Recorder}
 use Rattle.cluster.specs.declared.stop.Stop.{Stop}
@@ -82,14 +81,14 @@ module _ {L : Type 0} (sent : L → Option (List (ℕ × List ℕ))) (given : L 
     pub came : CameThere first w s
     pub handed : Handed sent given looks (frames_before w s) a b
 
-  -- The link stopped it, or memory ran out: a front of the messages of the run was handed to the link, with all
+  -- The link stopped it, or memory ran out: a prefix of the messages of the run was handed to the link, with all
   -- that were sent before the line that was recorded last.
   pub record StopsInLink (looks : List (Option (List ℕ))) (s : Recording) (e : LinkError) (b : L) : Type 0 where
-    pub front : List (ℕ × List ℕ)
+    pub prefix : List (ℕ × List ℕ)
     pub rest : List (ℕ × List ℕ)
-    pub all : frames_of s.run ≡ front ++ rest
-    pub most : length (frames_before w s) ≤ length front
-    pub handed : Handed sent given looks front a b
+    pub all : frames_of s.run ≡ prefix ++ rest
+    pub most : length (frames_before w s) ≤ length prefix
+    pub handed : Handed sent given looks prefix a b
     pub cause : e ≡ Failed → Rose (faults a) (faults b)
 
   -- why the recorder stopped in the line that was to be recorded last

@@ -1,13 +1,13 @@
 -- How messages are handed to a link, and put into an index.
 use Rattle.std.specs.Prelude.{◌≡◌, ◌≤◌, ◌+◌, ℕ, List, [], ◌++◌, length, map, Option, Result, Ok, Err}
 use Rattle.ens_base.specs.Causes.{Rose}
-use Rattle.ens_outside.specs.declared.errors.LinkError.{LinkError}
-use Rattle.ens_outside.specs.declared.errors.LinkError.TheVariants.{Failed}
-use Rattle.cluster_spec.specs.Recordings.{frame_out}
-use Rattle.frame_index.specs.Indexes.{Indexes}
-use Rattle.frame_index.specs.declared.index.FrameIndex.{FrameIndex}
+use Rattle.environment.specs.declared.errors.LinkError.{LinkError}
+use Rattle.environment.specs.declared.errors.LinkError.TheVariants.{Failed}
+use Rattle.cluster.specs.Recordings.{frame_out}
+use Rattle.network.specs.Indexes.{Indexes}
+use Rattle.network.specs.declared.index.FrameIndex.{FrameIndex}
 use Rattle.network.specs.Mail.{IsMail, Mail}
-use Rattle.turn_spec.specs.Going.{Grew}
+use Rattle.peer_turns.specs.Going.{Grew}
 use Rattle.wire_frames.specs.declared.frame.Frame.{Frame}
 use Rattle.world_model.specs.WorldSpec.{posted_all}
 
@@ -23,12 +23,12 @@ module _ {L : Type 0} (sent : L → Option (List (ℕ × List ℕ))) (given : L 
     pub later : faults a ≤ faults b
     pub adds : AddsTo frames number old new
 
-  -- a front of these messages was handed to the link
+  -- a prefix of these messages was handed to the link
   pub record HandedSome (error : LinkError) (frames : List Frame) (a b : L) : Type 0 where
-    pub front : List Frame
+    pub prefix : List Frame
     pub rest : List Frame
-    pub all : frames ≡ front ++ rest
-    pub sends : Grew (sent a) (sent b) (map frame_out front)
+    pub all : frames ≡ prefix ++ rest
+    pub sends : Grew (sent a) (sent b) (map frame_out prefix)
     pub looked : Grew (given a) (given b) []
     pub later : faults a ≤ faults b
     pub cause : error ≡ Failed → Rose (faults a) (faults b)

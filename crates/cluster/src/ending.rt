@@ -2,17 +2,17 @@ ghost use Rattle.std.specs.Prelude.{◌≡◌, ◌≢◌, [], ℕ, List, Option,
 ghost use Rattle.std.specs.Io.KnownBytes.{Appends};
 ghost use Rattle.cluster.specs.Endings.{IsStopText, IsUnread};
 ghost use Rattle.cluster.specs.declared.stop.Stop.TheVariants.{World as OfWorld, Link as OfLink};
-ghost use Rattle.cluster_script.specs.Reading.{Refuses};
+ghost use Rattle.scripts.specs.ClusterReading.{Refuses};
 ghost use Rattle.ens_base.specs.Causes.{Rose};
 ghost use Rattle.ens_base.specs.declared.status.Status.{Status};
-ghost use Rattle.ens_outside.specs.Written.{AppendsFront};
+ghost use Rattle.environment.specs.Written.{AppendsPrefix};
 
 use crate::stop::Stop;
-use cluster_script::ReadError;
 use ens_base::Status;
-use ens_outside::{LinkError, Sink, write_all};
+use environment::{LinkError, Sink, write_all};
 use replay::clash_text;
 use schedule_input::Ending;
+use scripts::ReadError;
 use std::alloc::{AllocError, Global};
 use world_model::WorldError;
 
@@ -41,7 +41,7 @@ impl Printout {
     pub(crate) fn print<O: Sink>(self, output: &mut O) -> Status
         requires { self.status ≢ Status.WriteFault }
         ensures written { result ≢ Status.WriteFault → (result ≡ self.status) × Appends (O.written output.old) (O.written output.new) self.text.items }
-        ensures front { result ≡ Status.WriteFault → AppendsFront (O.written output.old) (O.written output.new) self.text.items }
+        ensures prefix { result ≡ Status.WriteFault → AppendsPrefix (O.written output.old) (O.written output.new) self.text.items }
         ensures failed { result ≡ Status.WriteFault → Rose (O.fault_count output.old) (O.fault_count output.new) }
     {
         match write_all(output, &self.text) {

@@ -1,19 +1,19 @@
 ghost use Rattle.std.specs.Prelude.{◌≡◌, ◌≢◌, ◌++◌, ◌∷◌, [], ℕ, List, IfOk, OnErr, codes, length};
 ghost use Rattle.std.specs.Io.KnownBytes.{Appends};
 ghost use Rattle.cluster.specs.Ends.{Ends, EndsOverBook, HasRead, IsCluster, RunEnds};
-ghost use Rattle.cluster_script.specs.Scripts.{IsScript, ended, next_line};
+ghost use Rattle.scripts.specs.Scripts.{IsScript, ended, next_line};
 ghost use Rattle.ens_base.specs.Causes.{Rose};
 ghost use Rattle.ens_base.specs.declared.status.Status.{Status};
-ghost use Rattle.ens_outside.specs.Written.{AppendsFront};
-ghost use Rattle.line_reading.specs.Counting.{WasTakenTo};
-ghost use Rattle.world_model.specs.HeldStores.{account};
+ghost use Rattle.environment.specs.Written.{AppendsPrefix};
+ghost use Rattle.schedule_input.specs.Counting.{WasTakenTo};
+ghost use Rattle.world_model.specs.WorldSpec.{account};
 
 use crate::ending::{Printout, stopped, unread};
 use crate::recorder::Recorder;
-use cluster_script::{ScriptLine, read_script};
 use ens_base::{ClusterWords, Seq, Status};
-use ens_hashing::{HashBook, Hasher16};
-use ens_outside::{Link, Sink, Source, finish};
+use environment::{Link, Sink, Source, finish};
+use hash_book::{HashBook, Hasher16};
+use scripts::{ScriptLine, read_script};
 use std::alloc::{AllocError, Global};
 use std::thread::Threads;
 
@@ -31,8 +31,12 @@ fn run_ending<L: Link, H: Hasher16, R: Threads + Sync>(
 ) -> Result<Printout, AllocError>
     requires words { IsCluster words.now }
     requires script { IsScript words.now.peers script }
-    ensures ends { IfOk result (λ p. RunEnds L.sent L.given L.fault_count (account H.kept H.clashes H.fulls hasher.old) (account H.kept H.clashes H.fulls hasher.new) words.now script link.old link.new p.status p.text.items) }
-    ensures memory { OnErr result (RunEnds L.sent L.given L.fault_count (account H.kept H.clashes H.fulls hasher.old) (account H.kept H.clashes H.fulls hasher.new) words.now script link.old link.new Status.Memory (codes "memory" ++ 10 ∷ [])) }
+    ensures ends { IfOk result (λ p. RunEnds L.sent L.given L.fault_count
+        (account H.kept H.clashes H.fulls hasher.old) (account H.kept H.clashes H.fulls hasher.new) words.now script
+        link.old link.new p.status p.text.items) }
+    ensures memory { OnErr result (RunEnds L.sent L.given L.fault_count
+        (account H.kept H.clashes H.fulls hasher.old) (account H.kept H.clashes H.fulls hasher.new) words.now script
+        link.old link.new Status.Memory (codes "memory" ++ 10 ∷ [])) }
 {
     match Recorder::follow(rt, alloc, words, script, link, hasher) {
         Ok(recorder) => Ok(Printout {
@@ -53,8 +57,12 @@ fn cluster_ending<S: Source, L: Link, H: Hasher16, R: Threads + Sync>(
     hasher: &mut H,
 ) -> Result<Printout, AllocError>
     requires { IsCluster words.now }
-    ensures ends { IfOk result (λ p. Ends L.sent L.given L.fault_count (account H.kept H.clashes H.fulls hasher.old) (account H.kept H.clashes H.fulls hasher.new) words.now (S.left input.old) link.old link.new p.status p.text.items) }
-    ensures memory { OnErr result (Ends L.sent L.given L.fault_count (account H.kept H.clashes H.fulls hasher.old) (account H.kept H.clashes H.fulls hasher.new) words.now (S.left input.old) link.old link.new Status.Memory (codes "memory" ++ 10 ∷ [])) }
+    ensures ends { IfOk result (λ p. Ends L.sent L.given L.fault_count (account H.kept H.clashes H.fulls hasher.old)
+        (account H.kept H.clashes H.fulls hasher.new) words.now (S.left input.old) link.old link.new p.status
+        p.text.items) }
+    ensures memory { OnErr result (Ends L.sent L.given L.fault_count (account H.kept H.clashes H.fulls hasher.old)
+        (account H.kept H.clashes H.fulls hasher.new) words.now (S.left input.old) link.old link.new Status.Memory
+        (codes "memory" ++ 10 ∷ [])) }
     ensures taken { WasTakenTo (next_line words.now.peers) ended [] length (S.left input.old) (S.left input.new) }
     ensures read { IfOk result (λ p. HasRead words.now (S.left input.old) (S.left input.new) (S.fault_count input.old) (S.fault_count input.new) p.status) }
     ensures status { IfOk result (λ p. p.status ≢ Status.WriteFault) }
@@ -91,8 +99,15 @@ pub fn cluster_with<S: Source, O: Sink, L: Link, H: Hasher16, R: Threads + Sync>
     hasher: &mut H,
 ) -> Status
     requires { IsCluster words.now }
-    ensures printed { result ≢ Status.WriteFault → (text : List ℕ) × Ends L.sent L.given L.fault_count (account H.kept H.clashes H.fulls hasher.old) (account H.kept H.clashes H.fulls hasher.new) words.now (S.left input.old) link.old link.new result text × Appends (O.written output.old) (O.written output.new) text }
-    ensures front { result ≡ Status.WriteFault → (status : Status) × (text : List ℕ) × Ends L.sent L.given L.fault_count (account H.kept H.clashes H.fulls hasher.old) (account H.kept H.clashes H.fulls hasher.new) words.now (S.left input.old) link.old link.new status text × HasRead words.now (S.left input.old) (S.left input.new) (S.fault_count input.old) (S.fault_count input.new) status × AppendsFront (O.written output.old) (O.written output.new) text }
+    ensures printed { result ≢ Status.WriteFault → (text : List ℕ)
+        × Ends L.sent L.given L.fault_count (account H.kept H.clashes H.fulls hasher.old)
+        (account H.kept H.clashes H.fulls hasher.new) words.now (S.left input.old) link.old link.new result text
+        × Appends (O.written output.old) (O.written output.new) text }
+    ensures prefix { result ≡ Status.WriteFault → (status : Status) × (text : List ℕ)
+        × Ends L.sent L.given L.fault_count (account H.kept H.clashes H.fulls hasher.old)
+        (account H.kept H.clashes H.fulls hasher.new) words.now (S.left input.old) link.old link.new status text
+        × HasRead words.now (S.left input.old) (S.left input.new) (S.fault_count input.old)
+        (S.fault_count input.new) status × AppendsPrefix (O.written output.old) (O.written output.new) text }
     ensures input { result ≢ Status.WriteFault → HasRead words.now (S.left input.old) (S.left input.new) (S.fault_count input.old) (S.fault_count input.new) result }
     ensures write { result ≡ Status.WriteFault → Rose (O.fault_count output.old) (O.fault_count output.new) }
 {
@@ -113,8 +128,13 @@ pub fn cluster<S: Source, O: Sink, L: Link, R: Threads + Sync>(
     link: &mut L,
 ) -> Status
     requires { IsCluster words.now }
-    ensures printed { result ≢ Status.WriteFault → (text : List ℕ) × EndsOverBook L.sent L.given L.fault_count words.now (S.left input.old) link.old link.new result text × Appends (O.written output.old) (O.written output.new) text }
-    ensures front { result ≡ Status.WriteFault → (status : Status) × (text : List ℕ) × EndsOverBook L.sent L.given L.fault_count words.now (S.left input.old) link.old link.new status text × HasRead words.now (S.left input.old) (S.left input.new) (S.fault_count input.old) (S.fault_count input.new) status × AppendsFront (O.written output.old) (O.written output.new) text }
+    ensures printed { result ≢ Status.WriteFault → (text : List ℕ)
+        × EndsOverBook L.sent L.given L.fault_count words.now (S.left input.old) link.old link.new result text
+        × Appends (O.written output.old) (O.written output.new) text }
+    ensures prefix { result ≡ Status.WriteFault → (status : Status) × (text : List ℕ)
+        × EndsOverBook L.sent L.given L.fault_count words.now (S.left input.old) link.old link.new status text
+        × HasRead words.now (S.left input.old) (S.left input.new) (S.fault_count input.old)
+        (S.fault_count input.new) status × AppendsPrefix (O.written output.old) (O.written output.new) text }
     ensures input { result ≢ Status.WriteFault → HasRead words.now (S.left input.old) (S.left input.new) (S.fault_count input.old) (S.fault_count input.new) result }
     ensures write { result ≡ Status.WriteFault → Rose (O.fault_count output.old) (O.fault_count output.new) }
 {

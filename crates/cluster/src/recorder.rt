@@ -2,24 +2,24 @@ ghost use Rattle.std.specs.Prelude.{◌≡◌, ◌+◌, ◌≤◌, ◌∷◌, []
 ghost use Rattle.cluster.specs.Ends.{IsCluster};
 ghost use Rattle.cluster.specs.Recorders.{Applies, FollowsOn, Hears, IsInStep, IsOpened, IsUnopened, Reached, Records, RecordsAll, mail_in};
 ghost use Rattle.cluster.specs.Sending.{HandsOn};
-ghost use Rattle.cluster_script.specs.Scripts.{IsScript, MayBeLine};
-ghost use Rattle.cluster_spec.specs.Messages.{MayBeRecorded, mail_before};
-ghost use Rattle.cluster_spec.specs.Recordings.{Recording};
+ghost use Rattle.scripts.specs.Scripts.{IsScript, MayBeLine};
+ghost use Rattle.cluster.specs.Messages.{MayBeRecorded, mail_before};
+ghost use Rattle.cluster.specs.Recordings.{Recording};
 ghost use Rattle.ens_base.specs.declared.peer_words.ClusterWords.{ClusterWords as Words};
-ghost use Rattle.world_model.specs.HeldStores.{Account, account};
+ghost use Rattle.world_model.specs.WorldSpec.{Account, account};
 ghost use Rattle.replay.specs.Text.{IsTextOfRun, record_text};
 ghost use Rattle.schedule_text.specs.Spelling.{MayStand, schedule_text};
 ghost use Rattle.world_model.specs.Worlds.{run_of};
 
 use crate::sending::hand_on;
 use crate::stop::Stop;
-use cluster_script::ScriptLine;
 use ens_base::{Bytes, ClusterWords, MAX_LINES, Seq};
-use ens_hashing::Hasher16;
-use ens_outside::{Link, LinkError};
-use frame_index::FrameIndex;
+use environment::{Link, LinkError};
+use hash_book::Hasher16;
+use network::FrameIndex;
 use replay::run_text;
 use schedule_text::{Form, Schedule, ScheduleEvent, write_schedule};
+use scripts::ScriptLine;
 use std::alloc::{AllocError, Global};
 use std::thread::Threads;
 use world_model::World;
@@ -124,7 +124,9 @@ impl Recorder {
         requires may { MayBeRecorded self.old.schedule.peers (mail_in self.old) event }
         ensures step { OnOk result (IsInStep self.new (mail_in self.new)) }
         ensures peers { OnOk result (self.new.schedule.peers ≡ self.old.schedule.peers) }
-        ensures records { (w : Words) (first : Account) (a : L) (looks : List (Option (List ℕ))) (r : Recording) → Reached L.sent L.given L.fault_count w first a looks r self.old link.old (account H.kept H.clashes H.fulls hasher.old)
+        ensures records { (w : Words) (first : Account) (a : L) (looks : List (Option (List ℕ))) (r : Recording)
+            → Reached L.sent L.given L.fault_count w first a looks r self.old link.old
+            (account H.kept H.clashes H.fulls hasher.old)
             → Records L.sent L.given L.fault_count w first a looks r event link.old result self.new link.new (account H.kept H.clashes H.fulls hasher.new) }
     {
         if self.is_full() {
@@ -148,7 +150,9 @@ impl Recorder {
         requires { IsInStep self.old (mail_in self.old) }
         ensures step { OnOk result (IsInStep self.new (mail_in self.new)) }
         ensures peers { OnOk result (self.new.schedule.peers ≡ self.old.schedule.peers) }
-        ensures hears { (w : Words) (first : Account) (a : L) (looks : List (Option (List ℕ))) (r : Recording) → Reached L.sent L.given L.fault_count w first a looks r self.old link.old (account H.kept H.clashes H.fulls hasher.old)
+        ensures hears { (w : Words) (first : Account) (a : L) (looks : List (Option (List ℕ))) (r : Recording)
+            → Reached L.sent L.given L.fault_count w first a looks r self.old link.old
+            (account H.kept H.clashes H.fulls hasher.old)
             → Hears L.sent L.given L.fault_count w first a 1 looks r link.old result self.new link.new (account H.kept H.clashes H.fulls hasher.new) }
     {
         let Some(bytes) = link.receive(alloc)? else {
@@ -173,7 +177,9 @@ impl Recorder {
         requires { IsInStep self.old (mail_in self.old) }
         ensures step { OnOk result (IsInStep self.new (mail_in self.new)) }
         ensures peers { OnOk result (self.new.schedule.peers ≡ self.old.schedule.peers) }
-        ensures hears { (w : Words) (first : Account) (a : L) (looks : List (Option (List ℕ))) (r : Recording) → Reached L.sent L.given L.fault_count w first a looks r self.old link.old (account H.kept H.clashes H.fulls hasher.old)
+        ensures hears { (w : Words) (first : Account) (a : L) (looks : List (Option (List ℕ))) (r : Recording)
+            → Reached L.sent L.given L.fault_count w first a looks r self.old link.old
+            (account H.kept H.clashes H.fulls hasher.old)
             → Hears L.sent L.given L.fault_count w first a count looks r link.old result self.new link.new (account H.kept H.clashes H.fulls hasher.new) }
     {
         for _look in 0..count {
@@ -195,7 +201,9 @@ impl Recorder {
         requires line { MayBeLine self.old.schedule.peers line }
         ensures step { OnOk result (IsInStep self.new (mail_in self.new)) }
         ensures peers { OnOk result (self.new.schedule.peers ≡ self.old.schedule.peers) }
-        ensures follows { (w : Words) (first : Account) (a : L) (looks : List (Option (List ℕ))) (r : Recording) → Reached L.sent L.given L.fault_count w first a looks r self.old link.old (account H.kept H.clashes H.fulls hasher.old)
+        ensures follows { (w : Words) (first : Account) (a : L) (looks : List (Option (List ℕ))) (r : Recording)
+            → Reached L.sent L.given L.fault_count w first a looks r self.old link.old
+            (account H.kept H.clashes H.fulls hasher.old)
             → FollowsOn L.sent L.given L.fault_count w first a (line ∷ []) looks r link.old result self.new link.new (account H.kept H.clashes H.fulls hasher.new) }
     {
         match line {

@@ -3,8 +3,8 @@ ghost use Rattle.cluster.specs.Sending.{HandsOn};
 ghost use Rattle.network.specs.Mail.{MayBeSent};
 
 use ens_base::Bytes;
-use ens_outside::{Link, LinkError};
-use frame_index::FrameIndex;
+use environment::{Link, LinkError};
+use network::FrameIndex;
 use std::alloc::Global;
 use wire_frames::{Frame, encode_frame};
 
@@ -32,7 +32,7 @@ fn hand_one_on<L: Link>(
 ///
 /// # Errors
 ///
-/// `Failed` only if the fault count of the link rose, and `Memory` when out of memory. A front of the
+/// `Failed` only if the fault count of the link rose, and `Memory` when out of memory. A prefix of the
 /// messages was handed to the link.
 pub(crate) fn hand_on<L: Link>(
     alloc: Global,

@@ -2,7 +2,7 @@ ghost use Rattle.std.specs.Prelude.{◌≡◌};
 ghost use Rattle.cluster.specs.declared.stop.Stop.TheVariants.{World as OfWorld, Link as OfLink};
 ghost use Rattle.world_model.specs.declared.error.WorldError.TheVariants.{Memory};
 
-use ens_outside::LinkError;
+use environment::LinkError;
 use std::alloc::AllocFailed;
 use world_model::WorldError;
 

@@ -1,7 +1,7 @@
 use ens_base::{Command, Epoch, Key, Reply, Value, Version, push_value};
-use ens_object::Object;
-use key_commands::{Verdict, apply};
+use object_commands::{Verdict, apply};
 use std::alloc::Global;
+use stored_formats::Object;
 
 /// The length in bytes up to which a value is printed in full.
 const PRINTED: usize = 16;

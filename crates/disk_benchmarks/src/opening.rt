@@ -1,9 +1,9 @@
 //! The opening of a log of many records.
 
-use disk_log::Log;
+use disk_stores::Log;
 use ens_base::Bytes;
-use ens_hashing::{Hasher16, PlainHasher};
-use host_adapters::FileDisk;
+use hash_book::{Hasher16, PlainHasher};
+use host::FileDisk;
 use std::alloc::Global;
 use std::fs::File;
 use std::rt::Files;

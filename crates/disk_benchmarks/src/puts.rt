@@ -2,9 +2,9 @@
 
 use disk_stores::{DiskBackend, DiskNodes};
 use ens_base::{Digest, Entry, Epoch, Key, Version};
-use ens_hashing::PlainHasher;
-use ens_outside::{Backend, MemBackend, MemNodes, NodeStore};
-use host_adapters::FileDisk;
+use environment::{Backend, MemBackend, MemNodes, NodeStore};
+use hash_book::PlainHasher;
+use host::FileDisk;
 use std::alloc::Global;
 use std::fs::File;
 use std::rt::Files;

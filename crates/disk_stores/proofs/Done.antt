@@ -1,8 +1,8 @@
 -- The map of nodes after a call.
 use Rattle.std.proofs.Common.{◌≡◌, ℕ, List, [], length, Option, Some, sym, ap, ◌∙◌}
-use Rattle.ens_outside.specs.Maps.{Entries, value_at, with_value}
-use Rattle.ens_outside.specs.MemStores.{Held}
-use Rattle.disk_log.specs.Logs.{Holds}
+use Rattle.environment.specs.Maps.{Entries, value_at, with_value}
+use Rattle.environment.specs.MemStores.{Held}
+use Rattle.disk_stores.specs.Logs.{Holds}
 use Rattle.disk_stores.specs.DiskCalls.{HoldsNodes}
 use Rattle.disk_stores.specs.declared.nodes.DiskNodes.{DiskNodes}
 use Rattle.disk_stores.proofs.NodeLaws.{node_found, node_written, top_written}

@@ -1,3 +1,10 @@
+pub mod Prefixes
+pub mod RecordLaws
+pub mod Indexing
+pub mod Scanning
+pub mod Opening
+pub mod Appending
+pub mod Recents
 pub mod NodeLaws
 pub mod Done
 pub mod Objects

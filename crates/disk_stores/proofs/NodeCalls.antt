@@ -2,12 +2,12 @@
 use Rattle.std.proofs.Common.{◌≡◌, ℕ, List, [], length, Option, Some, Result, Ok, Err, refl, ap, ◌∙◌, subst}
 use Rattle.std.specs.Prelude.{Vec, IfOk, OnOk}
 use Rattle.std.specs.declared.alloc.Global.{Global}
-use Rattle.ens_outside.specs.Maps.{Entries, value_at, with_value}
-use Rattle.ens_outside.specs.Stores.{Read, Write, SetTop}
-use Rattle.ens_outside.specs.Told.{bytes_of}
-use Rattle.ens_outside.specs.declared.errors.StoreError.{StoreError}
-use Rattle.disk_log.specs.LogFiles.{IsClean}
-use Rattle.disk_log.specs.Logs.{Holds}
+use Rattle.environment.specs.Maps.{Entries, value_at, with_value}
+use Rattle.environment.specs.Stores.{Read, Write, SetTop}
+use Rattle.environment.specs.Told.{bytes_of}
+use Rattle.environment.specs.declared.errors.StoreError.{StoreError}
+use Rattle.disk_stores.specs.LogFiles.{IsClean}
+use Rattle.disk_stores.specs.Logs.{Holds}
 use Rattle.disk_stores.specs.DiskCalls.{NodesDo}
 use Rattle.disk_stores.specs.declared.nodes.DiskNodes.{DiskNodes}
 use Rattle.disk_stores.proofs.Done.{stays_held, read_held, write_held, top_held}

@@ -4,9 +4,9 @@ use Rattle.std.specs.Ordering.{match_ordering}
 use Rattle.std.specs.declared.cmp.Ordering.{Ordering}
 use Rattle.std.specs.declared.cmp.Ordering.TheVariants.{Less, Equal, Greater}
 use Rattle.ens_base.specs.Lists.{bytes_cmp}
-use Rattle.ens_outside.specs.Maps.{Entries, value_at, with_value}
-use Rattle.ens_outside.specs.MemStores.{Held}
-use Rattle.ens_outside.proofs.MapLaws.{found_after, others_after}
+use Rattle.environment.specs.Maps.{Entries, value_at, with_value}
+use Rattle.environment.specs.MemStores.{Held}
+use Rattle.environment.proofs.MapLaws.{found_after, others_after}
 use Rattle.disk_stores.specs.NodeMaps.{named, digest_in, nodes_in}
 
 abbrev held : Entries → Option (List ℕ) → Held

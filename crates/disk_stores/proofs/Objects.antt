@@ -2,12 +2,12 @@
 use Rattle.std.proofs.Common.{◌≡◌, ℕ, List, Option, Result, Ok, Err, ap, ◌∙◌}
 use Rattle.std.specs.Prelude.{Vec, IfOk}
 use Rattle.std.specs.declared.alloc.Global.{Global}
-use Rattle.ens_outside.specs.Maps.{Entries, value_at}
-use Rattle.ens_outside.specs.Stores.{Get}
-use Rattle.ens_outside.specs.Told.{bytes_of}
-use Rattle.ens_outside.specs.declared.errors.StoreError.{StoreError}
-use Rattle.disk_log.specs.LogFiles.{IsClean}
-use Rattle.disk_log.specs.Logs.{Holds}
+use Rattle.environment.specs.Maps.{Entries, value_at}
+use Rattle.environment.specs.Stores.{Get}
+use Rattle.environment.specs.Told.{bytes_of}
+use Rattle.environment.specs.declared.errors.StoreError.{StoreError}
+use Rattle.disk_stores.specs.LogFiles.{IsClean}
+use Rattle.disk_stores.specs.Logs.{Holds}
 use Rattle.disk_stores.specs.DiskCalls.{ObjectsDo}
 use Rattle.disk_stores.specs.declared.backend.DiskBackend.{DiskBackend}
 

@@ -2,13 +2,13 @@
 -- finite map do.
 use Rattle.std.specs.Prelude.{◌≡◌, ℕ, List, Option, Result, Ok, Err}
 use Rattle.ens_base.specs.declared.refused.Refused.{Refused}
-use Rattle.ens_outside.specs.Maps.{Entries}
-use Rattle.ens_outside.specs.MemStores.{Held, object_answer, objects_after, node_answer, nodes_after}
-use Rattle.ens_outside.specs.Stores.{BackendCall, BackendAnswer, NodeCall, NodeAnswer}
-use Rattle.ens_outside.specs.declared.errors.StoreError.{StoreError}
-use Rattle.ens_outside.specs.declared.errors.StoreError.TheVariants.{Memory}
-use Rattle.disk_log.specs.LogFiles.{IsClean}
-use Rattle.disk_log.specs.Logs.{Holds}
+use Rattle.environment.specs.Maps.{Entries}
+use Rattle.environment.specs.MemStores.{Held, object_answer, objects_after, node_answer, nodes_after}
+use Rattle.environment.specs.Stores.{BackendCall, BackendAnswer, NodeCall, NodeAnswer}
+use Rattle.environment.specs.declared.errors.StoreError.{StoreError}
+use Rattle.environment.specs.declared.errors.StoreError.TheVariants.{Memory}
+use Rattle.disk_stores.specs.LogFiles.{IsClean}
+use Rattle.disk_stores.specs.Logs.{Holds}
 use Rattle.disk_stores.specs.NodeMaps.{nodes_in}
 use Rattle.disk_stores.specs.declared.backend.DiskBackend.{DiskBackend}
 use Rattle.disk_stores.specs.declared.nodes.DiskNodes.{DiskNodes}

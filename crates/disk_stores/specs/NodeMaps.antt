@@ -1,9 +1,9 @@
 -- The nodes and the top record of a peer, as entries of a map. A node stands under its digest, and the
 -- top record, of 16 bytes, under the empty name.
 use Rattle.std.specs.Prelude.{ℕ, List, [], ◌∷◌, length, Option, None, Some, ◌==◌, if◌then◌else◌}
-use Rattle.ens_outside.specs.Maps.{Entries, value_at}
-use Rattle.ens_outside.specs.MemStores.{Held}
-use Rattle.disk_log.specs.Records.{entries_of}
+use Rattle.environment.specs.Maps.{Entries, value_at}
+use Rattle.environment.specs.MemStores.{Held}
+use Rattle.disk_stores.specs.Records.{entries_of}
 
 -- the entries without that of the empty name, which comes before all others
 abbrev pub named : Entries → Entries

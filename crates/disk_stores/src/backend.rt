@@ -1,13 +1,13 @@
 ghost use Rattle.std.specs.Prelude.{◌≡◌, IfOk, IfErr, OnOk};
 ghost use Rattle.slot_disk.specs.Crash.{Told, SeenIn};
-ghost use Rattle.ens_outside.specs.Maps.{Entries};
-ghost use Rattle.disk_log.specs.LogFiles.{IsClean};
-ghost use Rattle.disk_log.specs.Logs.{IsOpenError};
-ghost use Rattle.disk_log.specs.Records.{entries_of};
+ghost use Rattle.environment.specs.Maps.{Entries};
+ghost use Rattle.disk_stores.specs.LogFiles.{IsClean};
+ghost use Rattle.disk_stores.specs.Logs.{IsOpenError};
+ghost use Rattle.disk_stores.specs.Records.{entries_of};
 
-use disk_log::Log;
+use crate::log::Log;
 use ens_base::{Bytes, Key, Refused};
-use ens_outside::{Backend, StoreError};
+use environment::{Backend, StoreError};
 use slot_disk::Disk;
 use std::alloc::Global;
 

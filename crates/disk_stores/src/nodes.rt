@@ -1,16 +1,16 @@
 ghost use Rattle.std.specs.Prelude.{◌≡◌, [], Some, IfOk, IfErr, OnOk};
 ghost use Rattle.slot_disk.specs.Crash.{Told, SeenIn};
-ghost use Rattle.ens_outside.specs.Maps.{Entries, value_at};
-ghost use Rattle.ens_outside.specs.MemStores.{Held};
-ghost use Rattle.ens_outside.specs.Stores.{StoreCounts};
-ghost use Rattle.ens_outside.specs.Told.{bytes_of};
-ghost use Rattle.disk_log.specs.LogFiles.{IsClean};
-ghost use Rattle.disk_log.specs.Logs.{Holds, IsOpenError};
+ghost use Rattle.environment.specs.Maps.{Entries, value_at};
+ghost use Rattle.environment.specs.MemStores.{Held};
+ghost use Rattle.environment.specs.Stores.{StoreCounts};
+ghost use Rattle.environment.specs.Told.{bytes_of};
+ghost use Rattle.disk_stores.specs.LogFiles.{IsClean};
+ghost use Rattle.disk_stores.specs.Logs.{Holds, IsOpenError};
 ghost use Rattle.disk_stores.specs.NodeMaps.{digest_in, nodes_of};
 
-use disk_log::Log;
+use crate::log::Log;
 use ens_base::{Bytes, Digest, Refused};
-use ens_outside::{NodeStore, StoreError};
+use environment::{NodeStore, StoreError};
 use slot_disk::Disk;
 use std::alloc::Global;
 

@@ -3,20 +3,20 @@ use Rattle.std.specs.Prelude.{not}
 use Rattle.std.proofs.Common.{◌≡◌, ℕ, ◌<◌, ◌≤◌, Bool, true, false, ◌==◌, if◌then◌else◌, inl, inr, Option, None, arith, refl, ap, ◌∙◌, sym, subst}
 use Rattle.std.proofs.lemmas.Bool.{true≢false}
 use Rattle.std.proofs.lemmas.Bool.Decides.{nat_tests}
-use Rattle.abstract_protocol.specs.Ledger.{Ledger, Place, IsFact, IsNew, MayAdopt, raise, accept, adopt}
-use Rattle.abstract_protocol.specs.Numbers.{epoch_number}
-use Rattle.following.specs.Announcements.{takes, accepts, commits, row_18}
-use Rattle.following.specs.Refusals.{unless_refused}
+use Rattle.protocol_laws.specs.Ledger.{Ledger, Place, IsFact, IsNew, MayAdopt, raise, accept, adopt}
+use Rattle.protocol_laws.specs.Numbers.{epoch_number}
+use Rattle.phase_rules.specs.Announcements.{takes, accepts, commits, row_18}
+use Rattle.phase_rules.specs.Refusals.{unless_refused}
 use Rattle.peer_state.specs.Moves.{follower, stopped_leading, waiting_phase, waiting_for}
 use Rattle.peer_state.specs.Rows.{announced, runs_sync}
 use Rattle.peer_state.specs.declared.state.Phase.{Phase}
 use Rattle.peer_state.specs.declared.state.Phase.TheVariants as phases
 use Rattle.peer_state.specs.declared.state.State.{State}
-use Rattle.peer_fact.specs.declared.fact.Fact.{Fact}
+use Rattle.stored_formats.specs.declared.fact.Fact.{Fact}
 use Rattle.phase_rows.specs.Orders.{is_below, is_same, may_accept}
 use Rattle.phase_rows.specs.Peers.{alone}
 use Rattle.phase_rows.specs.Rows.{silent, sends, saves, saves_and_sends, leaves_leading, at_ballot}
-use Rattle.version_laws.proofs.Maps.{put_here, mark_here}
+use Rattle.protocol_laws.proofs.Maps.{put_here, mark_here}
 use Rattle.wire_frames.specs.declared.message.Message.TheVariants as messages
 use Rattle.phase_rows.specs.declared.phase.PhaseOut.{PhaseOut}
 use Rattle.phase_rows.specs.declared.phase.Then.{Then}
@@ -31,7 +31,7 @@ use Rattle.election_refinement.proofs.Rows.{Fits, Goes, runs_on, unmoved, enters
 use Rattle.election_refinement.proofs.Saving.{may_raise, own_accepted, raised_fits, accepted_fits}
 use Rattle.election_refinement.proofs.Tests.{by_test}
 use Rattle.election_refinement.specs.Refinement.{fact_place, IsFirst, IsSecond, IsAcceptance, PhaseHolds, may_wait}
-use Rattle.abstract_protocol.proofs.Ranks.{epoch_same}
+use Rattle.protocol_laws.proofs.Ranks.{epoch_same}
 
 -- a peer that waits for a sync, and steps down if it led, follows
 waiting_holds : (l : Ledger) (p : ℕ) (fact : Fact) (phase : Phase) → PhaseHolds l p fact (stopped_leading (waiting_phase phase))

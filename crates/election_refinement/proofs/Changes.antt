@@ -2,12 +2,12 @@
 use Rattle.std.specs.Prelude.{◌&&◌, not}
 use Rattle.std.proofs.Common.{◌≡◌, ℕ, ◌<◌, Bool, true, false, List, [], ◌∷◌, length, if◌then◌else◌, inr, Option, arith, refl, ap, ◌∙◌, sym, subst}
 use Rattle.std.proofs.lemmas.Bool.{true≢false}
-use Rattle.joint_views.specs.Quorums.{is_member}
-use Rattle.abstract_protocol.specs.Ledger.{Ledger, Add, Drop, MayAdopt, MayCommit, commit, adopt, is_established}
-use Rattle.abstract_protocol.specs.Numbers.{epoch_number}
+use Rattle.quorums.specs.Quorums.{is_member}
+use Rattle.protocol_laws.specs.Ledger.{Ledger, Add, Drop, MayAdopt, MayCommit, commit, adopt, is_established}
+use Rattle.protocol_laws.specs.Numbers.{epoch_number}
 use Rattle.call_table.specs.Calls.{has_calls}
-use Rattle.election_laws.proofs.Epochs.{not_empty}
-use Rattle.election_laws.specs.Preparing.{proposer_of}
+use Rattle.protocol_laws.proofs.Epochs.{not_empty}
+use Rattle.protocol_laws.specs.Preparing.{proposer_of}
 use Rattle.ens_base.specs.PeerSet.{holds}
 use Rattle.ens_base.specs.declared.epoch.Epoch.{Epoch}
 use Rattle.peer_state.specs.Leading.{older, wished}
@@ -19,16 +19,16 @@ use Rattle.peer_state.specs.declared.state.Leadership.{Leadership}
 use Rattle.peer_state.specs.declared.state.Phase.{Phase}
 use Rattle.peer_state.specs.declared.state.Phase.TheVariants as phases
 use Rattle.peer_state.specs.declared.state.State.{State}
-use Rattle.peer_fact.specs.Facts.{views_after}
-use Rattle.peer_fact.specs.declared.fact.Change.{Change as FactChange}
-use Rattle.peer_fact.specs.declared.fact.Change.TheVariants as changes
-use Rattle.peer_fact.specs.declared.fact.Fact.{Fact}
+use Rattle.stored_formats.specs.Facts.{views_after}
+use Rattle.stored_formats.specs.declared.fact.Change.{Change as FactChange}
+use Rattle.stored_formats.specs.declared.fact.Change.TheVariants as changes
+use Rattle.stored_formats.specs.declared.fact.Fact.{Fact}
 use Rattle.phase_rows.specs.Orders.{is_joint}
 use Rattle.phase_rows.specs.Peers.{alone, others_of}
 use Rattle.phase_rows.specs.Rows.{silent, saves_and_sends}
-use Rattle.version_laws.proofs.Maps.{put_here, mark_here}
-use Rattle.view_change.specs.Changes.{may_change, row_24, same_view, second_fact}
-use Rattle.view_change.specs.Finishing.{may_end}
+use Rattle.protocol_laws.proofs.Maps.{put_here, mark_here}
+use Rattle.phase_rules.specs.Changes.{may_change, row_24, same_view, second_fact}
+use Rattle.phase_rules.specs.Finishing.{may_end}
 use Rattle.ens_base.specs.Views.{first_view}
 use Rattle.wire_frames.specs.declared.message.Message.TheVariants as messages
 use Rattle.phase_rows.specs.declared.phase.PhaseOut.{PhaseOut}

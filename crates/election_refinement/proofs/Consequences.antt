@@ -3,24 +3,24 @@ use Rattle.std.proofs.Common.{◌≡◌, ℕ, suc, ◌<◌, ◌≤◌, ◌⊎◌
 use Rattle.std.specs.Prelude.{nat_le}
 use Rattle.std.proofs.lemmas.Bool.Decides.{nat_tests}
 use Rattle.std.proofs.lemmas.Option.{same_Some}
-use Rattle.abstract_protocol.specs.Ledger.{Ledger, Place, IsAtMost, IsFact}
-use Rattle.abstract_protocol.specs.Numbers.{epoch_number}
-use Rattle.abstract_protocol.specs.Protocol.{Step, IsRun}
-use Rattle.abstract_protocol.proofs.Ranks.{epochs_ordered}
-use Rattle.election_laws.specs.Elections.{IsClosed, may_accept}
-use Rattle.election_laws.proofs.Epochs.{run_elections, run_lists}
-use Rattle.election_laws.proofs.Sound.{Sound, run_sound}
-use Rattle.joint_views.proofs.Majorities.{quorum_less}
-use Rattle.joint_views.specs.Quorums.{SharesView}
-use Rattle.election_laws.proofs.Rising.{run_stays}
+use Rattle.protocol_laws.specs.Ledger.{Ledger, Place, IsAtMost, IsFact}
+use Rattle.protocol_laws.specs.Numbers.{epoch_number}
+use Rattle.protocol_laws.specs.Protocol.{Step, IsRun}
+use Rattle.protocol_laws.proofs.Ranks.{epochs_ordered}
+use Rattle.protocol_laws.specs.Elections.{IsClosed, may_accept}
+use Rattle.protocol_laws.proofs.Epochs.{run_elections, run_lists}
+use Rattle.protocol_laws.proofs.Sound.{Sound, run_sound}
+use Rattle.quorums.proofs.Majorities.{quorum_less}
+use Rattle.quorums.specs.Quorums.{SharesView}
+use Rattle.protocol_laws.proofs.Rising.{run_stays}
 use Rattle.ens_base.specs.declared.epoch.Epoch.{Epoch}
 use Rattle.peer_state.specs.declared.state.Leadership.{Leadership}
 use Rattle.peer_state.specs.declared.state.State.{State}
-use Rattle.peer_fact.specs.declared.fact.Fact.{Fact}
+use Rattle.stored_formats.specs.declared.fact.Fact.{Fact}
 use Rattle.peer_state.specs.declared.state.Phase.TheVariants as phases
 use Rattle.world_spec.specs.Nodes.{Node, Up, Down}
 use Rattle.world_spec.specs.Runs.{Run}
-use Rattle.world_spec.specs.HeldStores.{HeldStores}
+use Rattle.world_spec.specs.Held.{HeldStores}
 use Rattle.election_refinement.specs.Refinement.{change_at, may_take, IsFactClosed, second_of, IsOrderly, IsKnown, IsSaved, IsLeading, PhaseHolds, NodeHolds}
 use Rattle.election_refinement.specs.Worlds.{Refines, ledger_after, IsRefinement, GoesOn, kept_by, HasFact, Leads, BallotsRise, Agree, FactsAgree, EpochsHaveOneLeader, FactsAreComplete, LedEpochsAreKept, ViewsAreShared}
 

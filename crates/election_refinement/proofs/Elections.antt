@@ -5,14 +5,14 @@ use Rattle.ens_base.specs.Lists.{is_in}
 use Rattle.std.specs.Prelude.{◌&&◌, not}
 use Rattle.std.proofs.lemmas.Bool.{and_parts, false≢true}
 use Rattle.std.proofs.lemmas.Bool.Decides.{nat_tests}
-use Rattle.joint_views.specs.Quorums.{is_quorum, is_member}
-use Rattle.abstract_protocol.specs.Ledger.{Ledger, Place, Change, Add, Drop, IsAtMost, elect, accept, changed_views as ledger_views, next_views, IsNew, MayElect}
-use Rattle.abstract_protocol.specs.Numbers.{epoch_number}
-use Rattle.election.specs.Preparing.{promised_by, starts, first_fact}
-use Rattle.election.specs.declared.election.Election.{Election}
-use Rattle.election.specs.declared.election.Election.TheVariants.{Preparing, Starting}
-use Rattle.election_laws.proofs.Epochs.{not_both}
-use Rattle.election_laws.specs.Preparing.{proposer_of}
+use Rattle.quorums.specs.Quorums.{is_quorum, is_member}
+use Rattle.protocol_laws.specs.Ledger.{Ledger, Place, Change, Add, Drop, IsAtMost, elect, accept, changed_views as ledger_views, next_views, IsNew, MayElect}
+use Rattle.protocol_laws.specs.Numbers.{epoch_number}
+use Rattle.phase_rules.specs.Preparing.{promised_by, starts, first_fact}
+use Rattle.phase_rules.specs.declared.election.Election.{Election}
+use Rattle.phase_rules.specs.declared.election.Election.TheVariants.{Preparing, Starting}
+use Rattle.protocol_laws.proofs.Epochs.{not_both}
+use Rattle.protocol_laws.specs.Preparing.{proposer_of}
 use Rattle.ens_base.specs.PeerSet.{holds}
 use Rattle.ens_base.specs.Views.{first_view}
 use Rattle.ens_base.specs.declared.epoch.Epoch.{Epoch}
@@ -21,13 +21,13 @@ use Rattle.peer_state.specs.Rows.{while_12, while_13}
 use Rattle.peer_state.specs.declared.state.Phase.{Phase}
 use Rattle.peer_state.specs.declared.state.Phase.TheVariants as phases
 use Rattle.peer_state.specs.declared.state.State.{State}
-use Rattle.peer_fact.specs.Facts.{changed_views, views_after}
-use Rattle.peer_fact.specs.declared.fact.Change.TheVariants as changes
-use Rattle.peer_fact.specs.declared.fact.Fact.{Fact}
+use Rattle.stored_formats.specs.Facts.{changed_views, views_after}
+use Rattle.stored_formats.specs.declared.fact.Change.TheVariants as changes
+use Rattle.stored_formats.specs.declared.fact.Fact.{Fact}
 use Rattle.phase_rows.specs.Orders.{is_joint, is_same, is_newer, may_accept}
 use Rattle.phase_rows.specs.Peers.{alone, nobody, joined, members, others_of, with_members}
 use Rattle.phase_rows.specs.Rows.{sends, saves_and_sends}
-use Rattle.version_laws.proofs.Maps.{put_here, mark_here}
+use Rattle.protocol_laws.proofs.Maps.{put_here, mark_here}
 use Rattle.wire_frames.specs.declared.message.Message.TheVariants as messages
 use Rattle.phase_rows.specs.declared.phase.PhaseOut.{PhaseOut}
 use Rattle.phase_rows.specs.declared.phase.Then.TheVariants as thens

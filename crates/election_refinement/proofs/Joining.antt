@@ -4,20 +4,20 @@ use Rattle.std.proofs.Common.{◌≡◌, ℕ, ◌<◌, ◌≤◌, Bool, true, fa
 use Rattle.std.specs.Prelude.{nat_lt, min, max}
 use Rattle.std.proofs.lemmas.Bool.{and_parts}
 use Rattle.std.proofs.lemmas.Bool.Decides.{nat_tests}
-use Rattle.abstract_protocol.specs.Ledger.{Ledger, Change, Add, Drop, changed_views}
-use Rattle.abstract_protocol.specs.Objects.{Map, Objects, IsGenuine, floor_after, install, MayInstall, MayEndSync}
-use Rattle.abstract_protocol.specs.Protocol.{Step, Begin, Ask, Raise, Install, EndSync, Note, Answer, MayDo, objects_after, IsRun, state_after}
-use Rattle.election_laws.proofs.Epochs.{not_empty}
-use Rattle.election_laws.proofs.Sound.{Election, Sound, run_sound}
-use Rattle.election_laws.specs.Elections.{Follows}
+use Rattle.protocol_laws.specs.Ledger.{Ledger, Change, Add, Drop, changed_views}
+use Rattle.protocol_laws.specs.Objects.{Map, Objects, IsGenuine, floor_after, install, MayInstall, MayEndSync}
+use Rattle.protocol_laws.specs.Protocol.{Step, Begin, Ask, Raise, Install, EndSync, Note, Answer, MayDo, objects_after, IsRun, state_after}
+use Rattle.protocol_laws.proofs.Epochs.{not_empty}
+use Rattle.protocol_laws.proofs.Sound.{Election, Sound, run_sound}
+use Rattle.protocol_laws.specs.Elections.{Follows}
 use Rattle.ens_base.specs.Lists.{◌∈◌}
 use Rattle.ens_base.specs.Views.{last_view}
-use Rattle.joint_views.specs.Quorums.{is_majority, is_quorum}
-use Rattle.version_laws.proofs.Maps.{put_here}
-use Rattle.version_laws.proofs.Sources.{synced_by}
-use Rattle.version_laws.proofs.Stays.{versions_step, genuine_stays}
-use Rattle.version_laws.proofs.Trees.{run_versions, genuine_higher}
-use Rattle.version_laws.specs.Versions.{Genuine, IsSource}
+use Rattle.quorums.specs.Quorums.{is_majority, is_quorum}
+use Rattle.protocol_laws.proofs.Maps.{put_here}
+use Rattle.protocol_laws.proofs.Sources.{synced_by}
+use Rattle.protocol_laws.proofs.Stays.{versions_step, genuine_stays}
+use Rattle.protocol_laws.proofs.Trees.{run_versions, genuine_higher}
+use Rattle.protocol_laws.specs.Versions.{Genuine, IsSource}
 
 -- ## Floors are genuine
 

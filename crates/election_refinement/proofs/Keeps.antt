@@ -4,26 +4,26 @@ use Rattle.std.proofs.Common.{◌≡◌, ℕ, ◌<◌, ◌≤◌, Bool, true, fa
 use Rattle.std.specs.Prelude.{All, ◌||◌, nat_le}
 use Rattle.std.proofs.lemmas.Bool.Decides.{nat_tests}
 use Rattle.std.proofs.lemmas.List.Elements.{All-weaker}
-use Rattle.joint_views.proofs.Majorities.{quorum_less, quorum_more}
-use Rattle.joint_views.specs.Quorums.{is_quorum}
-use Rattle.abstract_protocol.specs.Ledger.{Ledger, Place, Change, put, mark, IsFact, is_established, raise, elect, accept, commit, adopt, join}
-use Rattle.abstract_protocol.specs.Numbers.{epoch_number, IsEpoch}
-use Rattle.election_laws.proofs.Epochs.{not_both}
-use Rattle.election_laws.proofs.Rising.{put_rises}
-use Rattle.election_laws.specs.Preparing.{proposer_of}
-use Rattle.election.specs.declared.election.Election.TheVariants.{Preparing, Starting}
+use Rattle.quorums.proofs.Majorities.{quorum_less, quorum_more}
+use Rattle.quorums.specs.Quorums.{is_quorum}
+use Rattle.protocol_laws.specs.Ledger.{Ledger, Place, Change, put, mark, IsFact, is_established, raise, elect, accept, commit, adopt, join}
+use Rattle.protocol_laws.specs.Numbers.{epoch_number, IsEpoch}
+use Rattle.protocol_laws.proofs.Epochs.{not_both}
+use Rattle.protocol_laws.proofs.Rising.{put_rises}
+use Rattle.protocol_laws.specs.Preparing.{proposer_of}
+use Rattle.phase_rules.specs.declared.election.Election.TheVariants.{Preparing, Starting}
 use Rattle.ens_base.specs.declared.epoch.Epoch.{Epoch}
 use Rattle.peer_state.specs.declared.state.ChangeState.{ChangeState}
 use Rattle.peer_state.specs.declared.state.ChangeState.TheVariants.{Settled, Wanted, Finishing as Finishes}
 use Rattle.peer_state.specs.declared.state.Leadership.{Leadership}
 use Rattle.peer_state.specs.declared.state.Phase.{Phase}
 use Rattle.peer_state.specs.declared.state.Phase.TheVariants as phases
-use Rattle.peer_fact.specs.declared.fact.Change.TheVariants as changes
-use Rattle.peer_fact.specs.declared.fact.Fact.{Fact}
-use Rattle.probe.specs.declared.probing.Probing.{Probing}
-use Rattle.leader_words.specs.declared.out.Outgoing.{Outgoing}
-use Rattle.running_sync.specs.Running.{Running}
-use Rattle.version_laws.proofs.Maps.{put_other}
+use Rattle.stored_formats.specs.declared.fact.Change.TheVariants as changes
+use Rattle.stored_formats.specs.declared.fact.Fact.{Fact}
+use Rattle.phase_rules.specs.declared.probing.Probing.{Probing}
+use Rattle.leader_output.specs.declared.out.Outgoing.{Outgoing}
+use Rattle.tree_sync.specs.Running.{Running}
+use Rattle.protocol_laws.proofs.Maps.{put_other}
 use Rattle.wire_frames.specs.declared.frame.Frame.{Frame}
 use Rattle.wire_frames.specs.declared.message.Message.{Message}
 use Rattle.wire_frames.specs.declared.message.Message.TheVariants as messages

@@ -12,24 +12,24 @@ use Rattle.ens_base.specs.Lists.{◌∈◌, is_in}
 use Rattle.ens_base.specs.PeerSet.{holds}
 use Rattle.ens_base.specs.Views.{first_view}
 use Rattle.ens_base.specs.declared.epoch.Epoch.{Epoch}
-use Rattle.joint_views.specs.Quorums.{is_quorum, is_member}
-use Rattle.election.specs.Ballots.{row_11, row_15}
-use Rattle.election.specs.Preparing.{first_fact, starts}
-use Rattle.election.specs.declared.election.Election.{Election}
-use Rattle.election.specs.declared.election.Election.TheVariants.{Preparing, Starting}
-use Rattle.following.specs.Announcements.{commits, row_18, row_19}
-use Rattle.following.specs.Follower.{row_2}
-use Rattle.following.specs.Refusals.{unless_refused}
-use Rattle.following.specs.Requests.{row_20}
-use Rattle.following.specs.declared.follower.Follower.{Follower}
-use Rattle.leader_words.specs.Sends.{is_other}
-use Rattle.leader_words.specs.declared.out.Outgoing.{Outgoing}
-use Rattle.leading.specs.Ticks.{finishing_message, tick_message, ticks_up_to}
-use Rattle.leading.specs.declared.leader.Leader.{Leader}
+use Rattle.quorums.specs.Quorums.{is_quorum, is_member}
+use Rattle.phase_rules.specs.Ballots.{row_11, row_15}
+use Rattle.phase_rules.specs.Preparing.{first_fact, starts}
+use Rattle.phase_rules.specs.declared.election.Election.{Election}
+use Rattle.phase_rules.specs.declared.election.Election.TheVariants.{Preparing, Starting}
+use Rattle.phase_rules.specs.Announcements.{commits, row_18, row_19}
+use Rattle.phase_rules.specs.Follower.{row_2}
+use Rattle.phase_rules.specs.Refusals.{unless_refused}
+use Rattle.phase_rules.specs.Requests.{row_20}
+use Rattle.phase_rules.specs.declared.follower.Follower.{Follower}
+use Rattle.leader_output.specs.Sends.{is_other}
+use Rattle.leader_output.specs.declared.out.Outgoing.{Outgoing}
+use Rattle.leader.specs.Ticks.{finishing_message, tick_message, ticks_up_to}
+use Rattle.leader.specs.declared.leader.Leader.{Leader}
 use Rattle.peer_state.specs.Leading.{end_of, older, row_5_calls, ticks, wished}
 use Rattle.peer_state.specs.Moves.{electing, following, leading, left, probing, stood, stopped_leading, untrusted, waiting_for, waiting_phase, with_leader, without_candidacy}
 use Rattle.peer_state.specs.Rows.{aged, announced, asked_change, begun_change, calm, change_heard, changes as has_changes, ended, has_begun, leader_heard, leads, phase_row, prepared, received, runs_sync, wanting, while_8, while_9, while_10, while_12, while_13, while_14, while_15, while_17, while_25, while_26}
-use Rattle.peer_plan.specs.Starts.{first_state, opening_saved}
+use Rattle.peer_spec.specs.Starts.{first_state, opening_saved}
 use Rattle.peer_state.specs.declared.state.ChangeState.{ChangeState}
 use Rattle.peer_state.specs.declared.state.ChangeState.TheVariants.{Settled, Wanted, Finishing as Finishes}
 use Rattle.peer_state.specs.declared.state.Leadership.{Leadership}
@@ -37,18 +37,18 @@ use Rattle.peer_state.specs.declared.state.Phase.{Phase}
 use Rattle.peer_state.specs.declared.state.Phase.TheVariants as phases
 use Rattle.peer_state.specs.declared.state.Mode.{Mode}
 use Rattle.peer_state.specs.declared.state.State.{State}
-use Rattle.peer_fact.specs.Facts.{changed_views, views_after, without_old}
-use Rattle.peer_fact.specs.declared.fact.Change.{Change}
-use Rattle.peer_fact.specs.declared.fact.Change.TheVariants as changes
-use Rattle.peer_fact.specs.declared.fact.Fact.{Fact}
-use Rattle.peer_fact.specs.declared.saved.SavedFact.{SavedFact}
+use Rattle.stored_formats.specs.Facts.{changed_views, views_after, without_old}
+use Rattle.stored_formats.specs.declared.fact.Change.{Change}
+use Rattle.stored_formats.specs.declared.fact.Change.TheVariants as changes
+use Rattle.stored_formats.specs.declared.fact.Fact.{Fact}
+use Rattle.stored_formats.specs.declared.saved.SavedFact.{SavedFact}
 use Rattle.phase_rows.specs.Orders.{is_below, is_joint, is_same, is_newer, may_accept}
 use Rattle.phase_rows.specs.Peers.{joined, others_outside}
 use Rattle.phase_rows.specs.Rows.{at_ballot, leaves_leading, sends, silent}
-use Rattle.probe.specs.declared.probing.Probing.{Probing}
-use Rattle.running_sync.specs.Running.{Running}
-use Rattle.view_change.specs.Changes.{may_change, row_24, second_fact}
-use Rattle.view_change.specs.Finishing.{may_end}
+use Rattle.phase_rules.specs.declared.probing.Probing.{Probing}
+use Rattle.tree_sync.specs.Running.{Running}
+use Rattle.phase_rules.specs.Changes.{may_change, row_24, second_fact}
+use Rattle.phase_rules.specs.Finishing.{may_end}
 use Rattle.wire_frames.specs.declared.message.Message.{Message}
 use Rattle.wire_frames.specs.declared.message.Message.TheVariants as messages
 use Rattle.wire_frames.specs.declared.message.NackCause.{NackCause}

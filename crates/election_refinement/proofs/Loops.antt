@@ -5,37 +5,37 @@ use Rattle.std.proofs.Common.{◌≡◌, ◌≤◌, ℕ, zero, suc, Bool, true, 
 use Rattle.std.specs.Prelude.{All}
 use Rattle.std.proofs.lemmas.List.Elements.{All-nil, All-append, All-weaker}
 use Rattle.std.proofs.lemmas.Option.{none-some, same_Some}
-use Rattle.abstract_protocol.specs.Ledger.{Ledger, join, is_established}
-use Rattle.abstract_protocol.specs.Numbers.{epoch_number}
-use Rattle.election.specs.declared.election.Election.TheVariants.{Preparing, Starting}
+use Rattle.protocol_laws.specs.Ledger.{Ledger, join, is_established}
+use Rattle.protocol_laws.specs.Numbers.{epoch_number}
+use Rattle.phase_rules.specs.declared.election.Election.TheVariants.{Preparing, Starting}
 use Rattle.ens_base.specs.Views.{last_view}
 use Rattle.ens_base.specs.declared.entry.Entry.{Entry}
 use Rattle.ens_base.specs.declared.epoch.Epoch.{Epoch}
-use Rattle.ens_object.specs.Objects.{object_spelling}
-use Rattle.ens_object.specs.declared.object.Object.{Object}
-use Rattle.exchange.specs.declared.question.Question.{Question}
-use Rattle.following.specs.Refusals.{is_served}
-use Rattle.following.specs.Requests.{row_21, row_22, row_23}
-use Rattle.kept_objects.specs.Kept.{entry_of, matching, object_in}
-use Rattle.leader_words.specs.declared.out.LeadOut.{LeadOut}
-use Rattle.leader_words.specs.declared.out.Outgoing.{Outgoing}
-use Rattle.leader_words.specs.declared.out.Own.{Own}
-use Rattle.leader_words.specs.declared.out.Own.TheVariants as owns
-use Rattle.leading.specs.Puts.{row_35_reply}
-use Rattle.leading.specs.Rounds.{row_29_reply, row_33_reply}
-use Rattle.leading.specs.Rules.{lead_row}
-use Rattle.leading.specs.Starts.{row_27}
-use Rattle.leading.specs.Ticks.{row_5_calls as calls_of_tick}
-use Rattle.leading.specs.declared.leader.Leader.{Leader}
-use Rattle.peer_plan.specs.Drives.{row_done, got_ask, in_tree, owned, followed_up, and_row, lead_done, lead, reminded, task_done, driven, most_turns, led_in, ticked, shown, after_put, put_done, delivered, unavailable, called, and_change, first, concluded, step_of}
-use Rattle.peer_plan.specs.Syncs.{saved, sealed_if, and_sends, with_sync, installed, accepted, accepted_in, end_sync, by_outcome, go_on, start_sync, resume_sync, followed_on, reached, own_node, body_of, shown_node, needs_node, take_give, tree_give}
+use Rattle.stored_formats.specs.Objects.{object_spelling}
+use Rattle.stored_formats.specs.declared.object.Object.{Object}
+use Rattle.tree_exchange.specs.declared.question.Question.{Question}
+use Rattle.phase_rules.specs.Refusals.{is_served}
+use Rattle.phase_rules.specs.Requests.{row_21, row_22, row_23}
+use Rattle.object_commands.specs.Kept.{entry_of, matching, object_in}
+use Rattle.leader_output.specs.declared.out.LeadOut.{LeadOut}
+use Rattle.leader_output.specs.declared.out.Outgoing.{Outgoing}
+use Rattle.leader_output.specs.declared.out.Own.{Own}
+use Rattle.leader_output.specs.declared.out.Own.TheVariants as owns
+use Rattle.leader.specs.Puts.{row_35_reply}
+use Rattle.leader.specs.Rounds.{row_29_reply, row_33_reply}
+use Rattle.leader.specs.Rules.{lead_row}
+use Rattle.leader.specs.Starts.{row_27}
+use Rattle.leader.specs.Ticks.{row_5_calls as calls_of_tick}
+use Rattle.leader.specs.declared.leader.Leader.{Leader}
+use Rattle.peer_spec.specs.Drives.{row_done, got_ask, in_tree, owned, followed_up, and_row, lead_done, lead, reminded, task_done, driven, most_turns, led_in, ticked, shown, after_put, put_done, delivered, unavailable, called, and_change, first, concluded, step_of}
+use Rattle.peer_spec.specs.Syncs.{saved, sealed_if, and_sends, with_sync, installed, accepted, accepted_in, end_sync, by_outcome, go_on, start_sync, resume_sync, followed_on, reached, own_node, body_of, shown_node, needs_node, take_give, tree_give}
 use Rattle.peer_state.specs.Leading.{begins, end_of, older, row_5_calls, ticks, wished}
 use Rattle.peer_state.specs.Moves.{electing, keeps_seal, left, left_answers, and_answers, without_sync, leading, with_leader, turned, ends_leading, turned_answers}
-use Rattle.peer_plan.specs.Owns.{digested, read, kept, fetched, held, looked_at, looked, found_at, found, stored, resealed, entered, written, confirmed}
+use Rattle.peer_spec.specs.Owns.{digested, read, kept, fetched, held, looked_at, looked, found_at, found, stored, resealed, entered, written, confirmed}
 use Rattle.peer_state.specs.Rows.{aged, asked_change, changes, leads, phase_row, received}
-use Rattle.peer_plan.specs.Starts.{resumed, continued, is_whole, reseals, reseals_if, migrated, scanned, continued_in, opened, start_of}
-use Rattle.peer_plan.specs.TreeCalls.{has_position}
-use Rattle.peer_plan.proofs.Inside.{has_level}
+use Rattle.peer_spec.specs.Starts.{resumed, continued, is_whole, reseals, reseals_if, migrated, scanned, continued_in, opened, start_of}
+use Rattle.peer_spec.specs.TreeCalls.{has_position}
+use Rattle.peer_spec.proofs.Inside.{has_level}
 use Rattle.peer_state.specs.declared.event.CallIn.{CallIn}
 use Rattle.peer_state.specs.declared.event.Event.{Event}
 use Rattle.peer_state.specs.declared.event.Event.TheVariants as events
@@ -44,17 +44,17 @@ use Rattle.peer_state.specs.declared.state.Phase.{Phase}
 use Rattle.peer_state.specs.declared.state.Phase.TheVariants as phases
 use Rattle.peer_state.specs.declared.state.Mode.{Mode}
 use Rattle.peer_state.specs.declared.state.State.{State}
-use Rattle.peer_fact.specs.declared.fact.Fact.{Fact}
-use Rattle.peer_fact.specs.declared.saved.SavedFact.{SavedFact}
+use Rattle.stored_formats.specs.declared.fact.Fact.{Fact}
+use Rattle.stored_formats.specs.declared.saved.SavedFact.{SavedFact}
 use Rattle.phase_rows.specs.Orders.{is_same}
 use Rattle.phase_rows.specs.Peers.{joined}
 use Rattle.register_model.specs.declared.note.Note.{Note}
-use Rattle.running_sync.proofs.Keeping.{fact_stays}
-use Rattle.running_sync.proofs.Messages.{start_go, start_ask, resume_go, resume_ask, take_go, take_ask}
-use Rattle.running_sync.proofs.Others.{asks_are, resumed_are, taken_are}
-use Rattle.running_sync.specs.Rows.{row_start, row_resume, row_take}
-use Rattle.running_sync.specs.Running.{Running}
-use Rattle.running_sync.specs.declared.asking.Give.{Give}
+use Rattle.tree_sync.proofs.Keeping.{fact_stays}
+use Rattle.tree_sync.proofs.Messages.{start_go, start_ask, resume_go, resume_ask, take_go, take_ask}
+use Rattle.tree_sync.proofs.Others.{asks_are, resumed_are, taken_are}
+use Rattle.tree_sync.specs.Rows.{row_start, row_resume, row_take}
+use Rattle.tree_sync.specs.Running.{Running}
+use Rattle.tree_sync.specs.declared.asking.Give.{Give}
 use Rattle.step_plans.specs.Calls.{Call, Load, Save, Find, Enter, ReadNode, Fetch, Put, Hash, AnswerOf}
 use Rattle.step_plans.specs.Plans.{Plan, Done, Say, Ask, Out, nothing, Part, Rest, asked, noted}
 use Rattle.step_plans.specs.Sends.{posted_to}
@@ -64,9 +64,9 @@ use Rattle.step_plans.specs.declared.tasks.Task.TheVariants as tasks
 use Rattle.step_plans.specs.declared.walked.Walked.{Walked}
 use Rattle.step_plans.specs.declared.walked.Walked.TheVariants.{Reached, Broken}
 use Rattle.step_plans.specs.Saved.{with_seal, bare}
-use Rattle.sync_rule.specs.Syncs.{needs_build, outcome_of}
-use Rattle.sync_rule.specs.declared.sync.Outcome.{Outcome}
-use Rattle.sync_rule.specs.declared.sync.Outcome.TheVariants.{Pending, Trusted}
+use Rattle.tree_sync.specs.Syncs.{needs_build, outcome_of}
+use Rattle.tree_sync.specs.declared.sync.Outcome.{Outcome}
+use Rattle.tree_sync.specs.declared.sync.Outcome.TheVariants.{Pending, Trusted}
 use Rattle.tree_node.specs.TreeVersions.{levels}
 use Rattle.tree_node.specs.declared.body.Scan.{Scan}
 use Rattle.tree_node.specs.declared.position.Position.{Position}

@@ -3,10 +3,10 @@ use Rattle.std.proofs.Common.{◌≡◌, ℕ, zero, suc, ◌<◌, ◌≤◌, tru
 use Rattle.std.proofs.lemmas.Bool.{false≢true}
 use Rattle.std.proofs.lemmas.Bool.Decides.{nat_tests}
 use Rattle.std.proofs.lemmas.List.Elements.{All-nil}
-use Rattle.abstract_protocol.specs.Ledger.{opening_ledger}
-use Rattle.abstract_protocol.specs.Protocol.{Step}
+use Rattle.protocol_laws.specs.Ledger.{opening_ledger}
+use Rattle.protocol_laws.specs.Protocol.{Step}
 use Rattle.ens_base.specs.View.{IsView}
-use Rattle.peer_fact.specs.Facts.{opening_fact}
+use Rattle.stored_formats.specs.Facts.{opening_fact}
 use Rattle.schedule_text.specs.Forms.{is_sealed}
 use Rattle.schedule_text.specs.Spelling.{MayStand, AllMayStand}
 use Rattle.schedule_text.specs.declared.event.ScheduleEvent.{ScheduleEvent}

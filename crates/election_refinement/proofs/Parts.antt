@@ -2,40 +2,39 @@
 -- begins an epoch that was not elected yet. A leader stays the leader in the state of each row, except
 -- of rule 10 at the end of its epoch, and of rule 7; where else it steps down, the row asks for that.
 use Rattle.std.proofs.Common.{◌≡◌, ℕ, ◌+◌, ◌-◌, ◌^◌, Bool, true, false, not, ◌&&◌, ◌||◌, ◌==◌, if◌then◌else◌, List, ◌⊎◌, inl, inr, Option, refl, sym, subst}
-use Rattle.joint_views.specs.Quorums.{is_quorum, is_member}
-use Rattle.abstract_protocol.specs.Ledger.{Ledger}
-use Rattle.abstract_protocol.specs.Numbers.{epoch_number}
+use Rattle.quorums.specs.Quorums.{is_quorum, is_member}
+use Rattle.protocol_laws.specs.Ledger.{Ledger}
+use Rattle.protocol_laws.specs.Numbers.{epoch_number}
 use Rattle.call_table.specs.Calls.{has_calls}
-use Rattle.election.specs.Ballots.{row_11, row_15}
-use Rattle.election.specs.Preparing.{first_fact}
-use Rattle.election.specs.declared.election.Election.{Election}
-use Rattle.election.specs.declared.election.Election.TheVariants.{Preparing, Starting}
+use Rattle.phase_rules.specs.Ballots.{row_11, row_15}
+use Rattle.phase_rules.specs.Preparing.{first_fact}
+use Rattle.phase_rules.specs.declared.election.Election.{Election}
+use Rattle.phase_rules.specs.declared.election.Election.TheVariants.{Preparing, Starting}
 use Rattle.ens_base.specs.PeerSet.{holds}
 use Rattle.ens_base.specs.declared.epoch.Epoch.{Epoch}
-use Rattle.following.specs.Follower.{row_2}
-use Rattle.following.specs.Announcements.{row_18, row_19, commits}
-use Rattle.following.specs.Refusals.{unless_refused}
-use Rattle.following.specs.Requests.{row_20}
-use Rattle.following.specs.declared.follower.Follower.{Follower}
-use Rattle.leading.specs.declared.leader.Leader.{Leader}
+use Rattle.phase_rules.specs.Follower.{row_2}
+use Rattle.phase_rules.specs.Announcements.{row_18, row_19, commits}
+use Rattle.phase_rules.specs.Refusals.{unless_refused}
+use Rattle.phase_rules.specs.Requests.{row_20}
+use Rattle.phase_rules.specs.declared.follower.Follower.{Follower}
+use Rattle.leader.specs.declared.leader.Leader.{Leader}
 use Rattle.peer_state.specs.Moves.{electing, following, leading, probing, stood, waiting_for, waiting_phase}
-use Rattle.peer_state.specs.Rows.{aged, announced, asked_change, calm, begun_change, ended, phase_row, prepared, received, runs_sync, wanting}
-use Rattle.peer_state.specs.Rows.{leads as does_lead, changes as has_changes, has_begun, while_8, while_9, while_10, while_12, while_13, while_14, while_15, while_17, while_25, while_26}
+use Rattle.peer_state.specs.Rows.{aged, announced, asked_change, calm, begun_change, ended, phase_row, prepared, received, runs_sync, wanting, leads as does_lead, changes as has_changes, has_begun, while_8, while_9, while_10, while_12, while_13, while_14, while_15, while_17, while_25, while_26}
 use Rattle.peer_state.specs.declared.state.ChangeState.{ChangeState}
 use Rattle.peer_state.specs.declared.state.ChangeState.TheVariants.{Settled, Wanted, Finishing as Finishes}
 use Rattle.peer_state.specs.declared.state.Leadership.{Leadership}
 use Rattle.peer_state.specs.declared.state.Phase.{Phase}
 use Rattle.peer_state.specs.declared.state.Phase.TheVariants as phases
 use Rattle.peer_state.specs.declared.state.State.{State}
-use Rattle.peer_fact.specs.Facts.{views_after}
-use Rattle.peer_fact.specs.declared.fact.Change.TheVariants as changes
-use Rattle.peer_fact.specs.declared.fact.Fact.{Fact}
+use Rattle.stored_formats.specs.Facts.{views_after}
+use Rattle.stored_formats.specs.declared.fact.Change.TheVariants as changes
+use Rattle.stored_formats.specs.declared.fact.Fact.{Fact}
 use Rattle.phase_rows.specs.Orders.{is_below, is_same, is_newer, may_accept}
 use Rattle.phase_rows.specs.Peers.{nobody}
 use Rattle.phase_rows.specs.Rows.{silent, leaves_leading}
-use Rattle.probe.specs.declared.probing.Probing.{Probing}
-use Rattle.view_change.specs.Changes.{may_change, row_24}
-use Rattle.view_change.specs.Finishing.{may_end}
+use Rattle.phase_rules.specs.declared.probing.Probing.{Probing}
+use Rattle.phase_rules.specs.Changes.{may_change, row_24}
+use Rattle.phase_rules.specs.Finishing.{may_end}
 use Rattle.wire_frames.specs.declared.message.Message.{Message}
 use Rattle.wire_frames.specs.declared.message.Message.TheVariants as messages
 use Rattle.wire_frames.specs.declared.message.NackCause.{NackCause}

@@ -1,18 +1,18 @@
 -- Rules 7, 8 and 9: a peer probes.
 use Rattle.std.proofs.Common.{◌≡◌, ℕ, true, Option, arith, le_trans}
-use Rattle.joint_views.specs.Quorums.{is_quorum}
-use Rattle.abstract_protocol.specs.Ledger.{Ledger}
+use Rattle.quorums.specs.Quorums.{is_quorum}
+use Rattle.protocol_laws.specs.Ledger.{Ledger}
 use Rattle.ens_base.specs.PeerSet.{holds}
 use Rattle.peer_state.specs.Moves.{probing}
 use Rattle.peer_state.specs.Rows.{begun, while_8, while_9}
 use Rattle.peer_state.specs.declared.state.Phase.{Phase}
 use Rattle.peer_state.specs.declared.state.Phase.TheVariants as phases
 use Rattle.peer_state.specs.declared.state.State.{State}
-use Rattle.peer_fact.specs.declared.fact.Fact.{Fact}
+use Rattle.stored_formats.specs.declared.fact.Fact.{Fact}
 use Rattle.phase_rows.specs.Orders.{is_newer}
 use Rattle.phase_rows.specs.Rows.{silent}
-use Rattle.probe.specs.Probing.{first_probing, heard_from, bettered}
-use Rattle.probe.specs.declared.probing.Probing.{Probing}
+use Rattle.phase_rules.specs.Probing.{first_probing, heard_from, bettered}
+use Rattle.phase_rules.specs.declared.probing.Probing.{Probing}
 use Rattle.phase_rows.specs.declared.phase.PhaseOut.{PhaseOut}
 use Rattle.phase_rows.specs.declared.phase.Then.{Then}
 use Rattle.phase_rows.specs.declared.rules.PhaseRule.TheVariants as phase_rules

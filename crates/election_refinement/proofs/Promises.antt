@@ -1,26 +1,26 @@
 -- Rules 10 and 11: a ballot is prepared or promised.
 use Rattle.std.proofs.Common.{◌≡◌, ℕ, ◌<◌, ◌≤◌, ◌-◌, ◌^◌, Bool, true, false, not, ◌||◌, ◌==◌, Option, arith, refl, le_trans, sym, subst}
-use Rattle.joint_views.specs.Quorums.{is_member}
-use Rattle.abstract_protocol.specs.Ledger.{Ledger, raise}
-use Rattle.abstract_protocol.specs.Numbers.{epoch_number, IsEpoch}
-use Rattle.election.specs.Ballots.{row_11, promises_to}
-use Rattle.election.specs.Preparing.{next_ballot, prepares}
-use Rattle.election.specs.declared.election.Election.{Election}
-use Rattle.election.specs.declared.election.Election.TheVariants.{Preparing}
+use Rattle.quorums.specs.Quorums.{is_member}
+use Rattle.protocol_laws.specs.Ledger.{Ledger, raise}
+use Rattle.protocol_laws.specs.Numbers.{epoch_number, IsEpoch}
+use Rattle.phase_rules.specs.Ballots.{row_11, promises_to}
+use Rattle.phase_rules.specs.Preparing.{next_ballot, prepares}
+use Rattle.phase_rules.specs.declared.election.Election.{Election}
+use Rattle.phase_rules.specs.declared.election.Election.TheVariants.{Preparing}
 use Rattle.ens_base.specs.declared.epoch.Epoch.{Epoch}
 use Rattle.peer_state.specs.Moves.{follower, stood}
 use Rattle.peer_state.specs.Rows.{prepared, while_10}
 use Rattle.peer_state.specs.declared.state.Phase.{Phase}
 use Rattle.peer_state.specs.declared.state.Phase.TheVariants as phases
 use Rattle.peer_state.specs.declared.state.State.{State}
-use Rattle.peer_fact.specs.Facts.{views_after}
-use Rattle.peer_fact.specs.declared.fact.Fact.{Fact}
+use Rattle.stored_formats.specs.Facts.{views_after}
+use Rattle.stored_formats.specs.declared.fact.Fact.{Fact}
 use Rattle.phase_rows.specs.Orders.{is_below, is_same}
 use Rattle.phase_rows.specs.Peers.{alone, members}
 use Rattle.phase_rows.specs.Rows.{at_ballot}
-use Rattle.probe.specs.Probing.{first_probing}
-use Rattle.probe.specs.declared.probing.Probing.{Probing}
-use Rattle.version_laws.proofs.Maps.{put_here}
+use Rattle.phase_rules.specs.Probing.{first_probing}
+use Rattle.phase_rules.specs.declared.probing.Probing.{Probing}
+use Rattle.protocol_laws.proofs.Maps.{put_here}
 use Rattle.phase_rows.specs.declared.phase.PhaseOut.{PhaseOut}
 use Rattle.election_refinement.proofs.Keeps.{known_keeps, raise_keeps}
 use Rattle.election_refinement.specs.Keeps.{Keeps}

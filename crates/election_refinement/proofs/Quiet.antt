@@ -2,18 +2,18 @@
 use Rattle.std.proofs.Common.{◌≡◌, ℕ, ◌≤◌, Bool, true, false, ◌&&◌, ◌==◌, List, Option, inl, inr, arith, ap, ◌∙◌, sym, subst}
 use Rattle.std.proofs.lemmas.Bool.{and_parts}
 use Rattle.std.proofs.lemmas.Bool.Decides.{nat_tests}
-use Rattle.joint_views.proofs.Majorities.{quorum_more}
-use Rattle.joint_views.specs.Quorums.{is_quorum}
-use Rattle.abstract_protocol.specs.Ledger.{Ledger, Place, is_established}
-use Rattle.abstract_protocol.specs.Numbers.{epoch_number}
-use Rattle.election.specs.Ballots.{row_15}
-use Rattle.election.specs.declared.election.Election.{Election}
-use Rattle.election.specs.declared.election.Election.TheVariants.{Preparing, Starting}
+use Rattle.quorums.proofs.Majorities.{quorum_more}
+use Rattle.quorums.specs.Quorums.{is_quorum}
+use Rattle.protocol_laws.specs.Ledger.{Ledger, Place, is_established}
+use Rattle.protocol_laws.specs.Numbers.{epoch_number}
+use Rattle.phase_rules.specs.Ballots.{row_15}
+use Rattle.phase_rules.specs.declared.election.Election.{Election}
+use Rattle.phase_rules.specs.declared.election.Election.TheVariants.{Preparing, Starting}
 use Rattle.ens_base.specs.PeerSet.{holds}
 use Rattle.ens_base.specs.declared.epoch.Epoch.{Epoch}
-use Rattle.following.specs.Announcements.{row_19}
-use Rattle.leading.specs.Leaders.{new_leader}
-use Rattle.leading.specs.declared.leader.Leader.{Leader}
+use Rattle.phase_rules.specs.Announcements.{row_19}
+use Rattle.leader.specs.Leaders.{new_leader}
+use Rattle.leader.specs.declared.leader.Leader.{Leader}
 use Rattle.peer_state.specs.Moves.{electing, follower}
 use Rattle.peer_state.specs.Rows.{change_heard, leader_heard, while_14, while_15, while_17}
 use Rattle.peer_state.specs.declared.state.ChangeState.{ChangeState}
@@ -22,12 +22,12 @@ use Rattle.peer_state.specs.declared.state.Leadership.{Leadership}
 use Rattle.peer_state.specs.declared.state.Phase.{Phase}
 use Rattle.peer_state.specs.declared.state.Phase.TheVariants as phases
 use Rattle.peer_state.specs.declared.state.State.{State}
-use Rattle.peer_fact.specs.declared.fact.Fact.{Fact}
+use Rattle.stored_formats.specs.declared.fact.Fact.{Fact}
 use Rattle.phase_rows.specs.Orders.{is_below, is_same}
 use Rattle.phase_rows.specs.Peers.{joined}
 use Rattle.phase_rows.specs.Rows.{silent, refuses_below}
-use Rattle.probe.specs.Probing.{row_8_probe}
-use Rattle.view_change.specs.declared.finishing.Finishing.{Finishing}
+use Rattle.phase_rules.specs.Probing.{row_8_probe}
+use Rattle.phase_rules.specs.declared.finishing.Finishing.{Finishing}
 use Rattle.wire_frames.specs.declared.message.NackCause.{NackCause}
 use Rattle.wire_frames.specs.declared.message.NackCause.TheVariants as causes
 use Rattle.phase_rows.specs.declared.phase.PhaseOut.{PhaseOut}
@@ -39,7 +39,7 @@ use Rattle.election_refinement.proofs.Rows.{Fits, Goes, unmoved, enters_alone, q
 use Rattle.election_refinement.proofs.Sets.{joined_then}
 use Rattle.election_refinement.proofs.Tests.{by_test}
 use Rattle.election_refinement.specs.Refinement.{IsStarted, IsStarting, IsFinishing, ChangeHolds, IsLeading, PhaseHolds, may_wait, SyncHolds, IsAcceptance}
-use Rattle.abstract_protocol.proofs.Ranks.{epoch_same}
+use Rattle.protocol_laws.proofs.Ranks.{epoch_same}
 
 -- a peer that started an epoch and accepted it holds no fact of a later one
 accepted_own : {c : Course} {l : Ledger} {x : State} {stored : Option Fact} → Fits c l x stored → (new : Fact) (accepts : List Bool) → IsStarted l c.peer x.fact new accepts → holds accepts c.peer ≡ true → x.fact.epoch ≡ new.epoch

@@ -2,17 +2,17 @@
 use Rattle.std.proofs.Common.{◌≡◌, ℕ, ◌<◌, ◌≤◌, Bool, true, false, ◌==◌, ◌||◌, eqb-true, List, [], ◌∷◌, ◌++◌, length, ◌⊎◌, inl, inr, arith, refl, ap, le_trans, ◌∙◌, sym, subst}
 use Rattle.std.specs.Prelude.{nat_le}
 use Rattle.std.proofs.lemmas.Bool.Decides.{nat_tests}
-use Rattle.joint_views.proofs.Majorities.{meet_of_quorums, shares_itself}
-use Rattle.joint_views.specs.Quorums.{is_quorum}
-use Rattle.abstract_protocol.specs.Ledger.{Ledger, Place, Change, IsAtMost, put, mark, raise, elect, accept, commit, adopt, join, next_views, IsNew, MayElect, MayAccept, MayCommit, MayAdopt}
-use Rattle.abstract_protocol.specs.Protocol.{Step, Raise, Elect, Accept, Commit, Adopt, EndSync, Install, IsRun}
-use Rattle.election_laws.specs.Preparing.{proposer_of}
-use Rattle.election_laws.specs.Elections.{ElectionsAreSafe}
-use Rattle.election_laws.proofs.Epochs.{not_both, not_empty, run_elections}
-use Rattle.election_laws.proofs.Rising.{put_rises}
-use Rattle.election_laws.proofs.Sound.{Sound, run_sound}
+use Rattle.quorums.proofs.Majorities.{meet_of_quorums, shares_itself}
+use Rattle.quorums.specs.Quorums.{is_quorum}
+use Rattle.protocol_laws.specs.Ledger.{Ledger, Place, Change, IsAtMost, put, mark, raise, elect, accept, commit, adopt, join, next_views, IsNew, MayElect, MayAccept, MayCommit, MayAdopt}
+use Rattle.protocol_laws.specs.Protocol.{Step, Raise, Elect, Accept, Commit, Adopt, EndSync, Install, IsRun}
+use Rattle.protocol_laws.specs.Preparing.{proposer_of}
+use Rattle.protocol_laws.specs.Elections.{ElectionsAreSafe}
+use Rattle.protocol_laws.proofs.Epochs.{not_both, not_empty, run_elections}
+use Rattle.protocol_laws.proofs.Rising.{put_rises}
+use Rattle.protocol_laws.proofs.Sound.{Sound, run_sound}
 use Rattle.ens_base.specs.View.{IsPeer}
-use Rattle.version_laws.proofs.Maps.{put_other, put_then}
+use Rattle.protocol_laws.proofs.Maps.{put_other, put_then}
 use Rattle.election_refinement.proofs.Joining.{joins_after}
 use Rattle.election_refinement.proofs.Keeps.{closed_keeps, raise_keeps, elect_keeps, accept_keeps, join_keeps, commit_keeps, adopt_keeps}
 use Rattle.election_refinement.specs.Keeps.{Keeps}

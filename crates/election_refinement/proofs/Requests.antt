@@ -1,24 +1,24 @@
 -- Rules 20 to 23: the requests of a leader, or of a peer that runs a sync. They save nothing, and
 -- their answers assert nothing about elections.
 use Rattle.std.proofs.Common.{◌≡◌, ℕ, Bool, true, false, not, List, Option, Some, None, refl, sym, subst}
-use Rattle.abstract_protocol.specs.Ledger.{Ledger}
-use Rattle.election.specs.declared.election.Election.TheVariants.{Preparing, Starting}
+use Rattle.protocol_laws.specs.Ledger.{Ledger}
+use Rattle.phase_rules.specs.declared.election.Election.TheVariants.{Preparing, Starting}
 use Rattle.ens_base.specs.Epochs.{same_version}
 use Rattle.ens_base.specs.declared.entry.Entry.{Entry}
 use Rattle.ens_base.specs.declared.epoch.Epoch.{Epoch}
 use Rattle.ens_base.specs.declared.epoch.Version.{Version}
-use Rattle.ens_object.specs.declared.object.Object.{Object}
-use Rattle.following.specs.Refusals.{refusal, unless_refused}
-use Rattle.following.specs.Requests.{row_20, gets, row_21, is_version_below, puts_over, puts_at, puts, row_22, is_damaged, gives, gives_read, row_23}
-use Rattle.peer_plan.specs.Drives.{after_put}
+use Rattle.stored_formats.specs.declared.object.Object.{Object}
+use Rattle.phase_rules.specs.Refusals.{refusal, unless_refused}
+use Rattle.phase_rules.specs.Requests.{row_20, gets, row_21, is_version_below, puts_over, puts_at, puts, row_22, is_damaged, gives, gives_read, row_23}
+use Rattle.peer_spec.specs.Drives.{after_put}
 use Rattle.peer_state.specs.Moves.{follower, stopped_leading, without_candidacy, left, turned}
 use Rattle.peer_state.specs.declared.state.Phase.{Phase}
 use Rattle.peer_state.specs.declared.state.Phase.TheVariants as phases
 use Rattle.peer_state.specs.declared.state.State.{State}
-use Rattle.peer_fact.specs.declared.fact.Fact.{Fact}
+use Rattle.stored_formats.specs.declared.fact.Fact.{Fact}
 use Rattle.phase_rows.specs.Orders.{is_below, is_same}
 use Rattle.phase_rows.specs.Rows.{silent}
-use Rattle.running_sync.specs.Running.{Running}
+use Rattle.tree_sync.specs.Running.{Running}
 use Rattle.tree_node.specs.declared.body.TreeBody.{TreeBody}
 use Rattle.tree_node.specs.declared.position.Position.{Position}
 use Rattle.phase_rows.specs.declared.phase.PhaseOut.{PhaseOut}

@@ -3,14 +3,14 @@
 -- and which rule follows, is in `Loops`.
 use Rattle.std.proofs.Common.{◌≡◌, ℕ, Bool, true, false, Option, Some, None}
 use Rattle.std.proofs.lemmas.Bool.{false≢true}
-use Rattle.abstract_protocol.specs.Ledger.{Ledger}
+use Rattle.protocol_laws.specs.Ledger.{Ledger}
 use Rattle.peer_state.specs.Moves.{follower, left, turned, without_sync}
 use Rattle.peer_state.specs.Rows.{calm}
 use Rattle.peer_state.specs.declared.state.Phase.{Phase}
 use Rattle.peer_state.specs.declared.state.State.{State}
-use Rattle.peer_fact.specs.declared.fact.Fact.{Fact}
+use Rattle.stored_formats.specs.declared.fact.Fact.{Fact}
 use Rattle.phase_rows.specs.Rows.{silent}
-use Rattle.running_sync.specs.Running.{Running}
+use Rattle.tree_sync.specs.Running.{Running}
 use Rattle.phase_rows.specs.declared.phase.PhaseOut.{PhaseOut}
 use Rattle.phase_rows.specs.declared.phase.Then.{Then}
 use Rattle.phase_rows.specs.declared.phase.Then.TheVariants as thens

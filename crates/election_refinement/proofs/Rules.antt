@@ -1,10 +1,10 @@
 -- The rows of the rules: of those that a row names, and of those for a message.
 use Rattle.std.proofs.Common.{ℕ, Option}
-use Rattle.abstract_protocol.specs.Ledger.{Ledger}
-use Rattle.following.specs.Requests.{row_20}
+use Rattle.protocol_laws.specs.Ledger.{Ledger}
+use Rattle.phase_rules.specs.Requests.{row_20}
 use Rattle.peer_state.specs.Rows.{phase_row, received}
 use Rattle.peer_state.specs.declared.state.State.{State}
-use Rattle.peer_fact.specs.declared.fact.Fact.{Fact}
+use Rattle.stored_formats.specs.declared.fact.Fact.{Fact}
 use Rattle.wire_frames.specs.declared.message.Message.{Message}
 use Rattle.wire_frames.specs.declared.message.Message.TheVariants as messages
 use Rattle.phase_rows.specs.declared.rules.PhaseRule.{PhaseRule}

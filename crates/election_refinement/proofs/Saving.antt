@@ -1,15 +1,15 @@
 -- The state of a peer after it saved a fact: at a greater ballot, or as the first fact of an epoch
 -- that it accepts.
 use Rattle.std.proofs.Common.{◌≡◌, ℕ, ◌<◌, ◌≤◌, true, Option, Some, None, arith, refl, ap, le_trans, ◌∙◌, sym, subst}
-use Rattle.abstract_protocol.specs.Ledger.{Ledger, Place, IsAtMost, IsNew, raise, accept, join}
-use Rattle.abstract_protocol.specs.Numbers.{epoch_number, IsEpoch}
+use Rattle.protocol_laws.specs.Ledger.{Ledger, Place, IsAtMost, IsNew, raise, accept, join}
+use Rattle.protocol_laws.specs.Numbers.{epoch_number, IsEpoch}
 use Rattle.ens_base.specs.declared.epoch.Epoch.{Epoch}
 use Rattle.peer_state.specs.declared.state.Phase.{Phase}
 use Rattle.peer_state.specs.declared.state.State.{State}
-use Rattle.peer_fact.specs.declared.fact.Fact.{Fact}
+use Rattle.stored_formats.specs.declared.fact.Fact.{Fact}
 use Rattle.phase_rows.specs.Rows.{at_ballot}
-use Rattle.running_sync.specs.Running.{Running}
-use Rattle.version_laws.proofs.Maps.{put_here}
+use Rattle.tree_sync.specs.Running.{Running}
+use Rattle.protocol_laws.proofs.Maps.{put_here}
 use Rattle.election_refinement.proofs.Keeps.{accept_keeps, join_keeps, first_keeps}
 use Rattle.election_refinement.specs.Keeps.{Keeps}
 use Rattle.election_refinement.proofs.Numbers.{place_epoch, place_trans}

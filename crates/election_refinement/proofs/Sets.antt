@@ -4,15 +4,15 @@ use Rattle.std.specs.Prelude.{All}
 use Rattle.std.proofs.lemmas.Bool.{eqb-false, false≢true}
 use Rattle.std.proofs.lemmas.List.{get_or-set_other}
 use Rattle.std.proofs.lemmas.List.Elements.{All-nil, All-cons, All-append}
-use Rattle.abstract_protocol.specs.Ledger.{Ledger}
+use Rattle.protocol_laws.specs.Ledger.{Ledger}
 use Rattle.ens_base.specs.PeerSet.{holds}
 use Rattle.step_plans.specs.Sends.{posted, posted_to}
-use Rattle.leader_words.specs.declared.out.Outgoing.{Outgoing}
+use Rattle.leader_output.specs.declared.out.Outgoing.{Outgoing}
 use Rattle.phase_rows.specs.Peers.{nobody, joined, alone}
 use Rattle.wire_frames.specs.declared.message.Message.{Message}
 use Rattle.election_refinement.proofs.Tests.{by_test}
 use Rattle.election_refinement.specs.Refinement.{MessageHolds, SendHolds}
-use Rattle.joint_views.proofs.Sets.{no_flag}
+use Rattle.quorums.proofs.Sets.{no_flag}
 
 -- what holds of a peer and of all members of a set holds of all members once the peer joins
 pub joined_then : (P : ℕ → Type 0) (peer : ℕ) (set : List Bool) → P peer → ((q : ℕ) → holds set q ≡ true → P q) → (q : ℕ) → holds (joined peer set) q ≡ true → P q

@@ -2,8 +2,8 @@
 use Rattle.std.proofs.Common.{◌≡◌, ℕ, zero, suc, ◌<◌, ◌-◌, Bool, true, false, nat_lt, if◌then◌else◌, List, [], ◌∷◌, length, Option, Some, None, slice_get, refl, ◌∙◌, get_or}
 use Rattle.std.proofs.lemmas.List.{length-set, length-replicate}
 use Rattle.std.proofs.lemmas.Option.{slice_get-get_or}
-use Rattle.abstract_protocol.specs.Ledger.{Ledger}
-use Rattle.world_spec.specs.HeldStores.{empty_stores}
+use Rattle.protocol_laws.specs.Ledger.{Ledger}
+use Rattle.world_spec.specs.Held.{empty_stores}
 use Rattle.network.specs.Mail.{goes, oldest, is_among, most_messages}
 use Rattle.peer_state.specs.declared.event.Event.{Event}
 use Rattle.peer_state.specs.declared.event.Event.TheVariants as events

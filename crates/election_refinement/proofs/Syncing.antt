@@ -5,19 +5,19 @@ use Rattle.std.proofs.Common.{◌≡◌, ℕ, ◌≤◌, ◌&&◌, ◌==◌, Boo
 use Rattle.std.proofs.lemmas.Bool.{false≢true}
 use Rattle.std.proofs.lemmas.Bool.Decides.{nat_tests}
 use Rattle.std.proofs.lemmas.List.Elements.{All-nil, All-cons}
-use Rattle.abstract_protocol.specs.Ledger.{Ledger, Place, join}
-use Rattle.abstract_protocol.specs.Numbers.{epoch_number}
-use Rattle.election.specs.declared.election.Election.TheVariants.{Preparing, Starting}
+use Rattle.protocol_laws.specs.Ledger.{Ledger, Place, join}
+use Rattle.protocol_laws.specs.Numbers.{epoch_number}
+use Rattle.phase_rules.specs.declared.election.Election.TheVariants.{Preparing, Starting}
 use Rattle.ens_base.specs.declared.epoch.Epoch.{Epoch}
-use Rattle.leader_words.specs.declared.out.Outgoing.{Outgoing}
-use Rattle.peer_plan.specs.Syncs.{accepted}
+use Rattle.leader_output.specs.declared.out.Outgoing.{Outgoing}
+use Rattle.peer_spec.specs.Syncs.{accepted}
 use Rattle.peer_state.specs.declared.state.Phase.{Phase}
 use Rattle.peer_state.specs.declared.state.Phase.TheVariants as phases
 use Rattle.peer_state.specs.declared.state.State.{State}
-use Rattle.peer_fact.specs.declared.fact.Fact.{Fact}
+use Rattle.stored_formats.specs.declared.fact.Fact.{Fact}
 use Rattle.phase_rows.specs.Peers.{joined}
-use Rattle.running_sync.specs.Running.{Running}
-use Rattle.running_sync.specs.Sends.{MayGo, AsksAt, IsQuestion}
+use Rattle.tree_sync.specs.Running.{Running}
+use Rattle.tree_sync.specs.Sends.{MayGo, AsksAt, IsQuestion}
 use Rattle.wire_frames.specs.declared.message.Message.{Message}
 use Rattle.wire_frames.specs.declared.message.Message.TheVariants as messages
 use Rattle.election_refinement.proofs.Keeps.{join_keeps, first_keeps}

@@ -2,14 +2,14 @@
 use Rattle.std.specs.Prelude.{All}
 use Rattle.std.proofs.Common.{◌≡◌, ℕ, zero, suc, ◌≤◌, ◌+◌, Bool, ◌==◌, if◌then◌else◌, [], ◌∷◌, Option, arith}
 use Rattle.std.proofs.lemmas.List.Elements.{All-nil, All-cons, All-append}
-use Rattle.joint_views.specs.Quorums.{is_member}
-use Rattle.abstract_protocol.specs.Ledger.{Ledger}
-use Rattle.election.specs.declared.election.Election.TheVariants.{Preparing, Starting}
+use Rattle.quorums.specs.Quorums.{is_member}
+use Rattle.protocol_laws.specs.Ledger.{Ledger}
+use Rattle.phase_rules.specs.declared.election.Election.TheVariants.{Preparing, Starting}
 use Rattle.ens_base.specs.PeerSet.{holds}
-use Rattle.following.specs.declared.follower.Follower.{Follower}
-use Rattle.leader_words.specs.Sends.{is_other}
-use Rattle.leader_words.specs.declared.out.Outgoing.{Outgoing}
-use Rattle.leading.specs.Ticks.{finishing_message, tick_message, ticks_up_to}
+use Rattle.phase_rules.specs.declared.follower.Follower.{Follower}
+use Rattle.leader_output.specs.Sends.{is_other}
+use Rattle.leader_output.specs.declared.out.Outgoing.{Outgoing}
+use Rattle.leader.specs.Ticks.{finishing_message, tick_message, ticks_up_to}
 use Rattle.peer_state.specs.Moves.{electing, following}
 use Rattle.peer_state.specs.Leading.{end_of}
 use Rattle.peer_state.specs.Rows.{aged, runs_sync}
@@ -19,7 +19,7 @@ use Rattle.peer_state.specs.declared.state.Leadership.{Leadership}
 use Rattle.peer_state.specs.declared.state.Phase.{Phase}
 use Rattle.peer_state.specs.declared.state.Phase.TheVariants as phases
 use Rattle.peer_state.specs.declared.state.State.{State}
-use Rattle.peer_fact.specs.declared.fact.Fact.{Fact}
+use Rattle.stored_formats.specs.declared.fact.Fact.{Fact}
 use Rattle.phase_rows.specs.Peers.{others_outside}
 use Rattle.phase_rows.specs.Rows.{silent, sends}
 use Rattle.wire_frames.specs.declared.message.Message.TheVariants as messages

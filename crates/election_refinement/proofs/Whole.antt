@@ -1,10 +1,10 @@
 -- A row of a phase as steps of a run: the steps that the peer takes on it, from the whole run so far.
 use Rattle.std.proofs.Common.{◌≡◌, ℕ, List, [], ◌++◌, Option, refl, sym, subst}
-use Rattle.abstract_protocol.specs.Protocol.{Step, IsRun}
+use Rattle.protocol_laws.specs.Protocol.{Step, IsRun}
 use Rattle.ens_base.specs.View.{IsPeer}
 use Rattle.peer_state.specs.Rows.{aged, asked_change, phase_row, received}
 use Rattle.peer_state.specs.declared.state.State.{State}
-use Rattle.peer_fact.specs.declared.fact.Fact.{Fact}
+use Rattle.stored_formats.specs.declared.fact.Fact.{Fact}
 use Rattle.wire_frames.specs.declared.message.Message.{Message}
 use Rattle.phase_rows.specs.declared.phase.PhaseOut.{PhaseOut}
 use Rattle.phase_rows.specs.declared.rules.PhaseRule.{PhaseRule}

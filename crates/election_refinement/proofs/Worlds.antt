@@ -5,17 +5,20 @@ use Rattle.std.proofs.lemmas.Bool.{eqb-false}
 use Rattle.std.proofs.lemmas.List.{get_or-set_same, get_or-set_other, length-set}
 use Rattle.std.proofs.lemmas.List.Elements.{All-nil, All-push, All-head, All-tail, All-map, All-weaker}
 use Rattle.std.proofs.lemmas.Option.{slice_get_within, get_or_from_slice_get, slice_get-get_or}
-use Rattle.abstract_protocol.specs.Ledger.{Ledger}
-use Rattle.abstract_protocol.specs.Protocol.{Step}
+use Rattle.protocol_laws.specs.Ledger.{Ledger}
+use Rattle.protocol_laws.specs.Protocol.{Step}
 use Rattle.ens_base.specs.View.{IsPeer}
-use Rattle.ens_outside.specs.declared.memory.failing_call.Leaves.{Leaves}
-use Rattle.ens_outside.specs.declared.memory.failing_call.Leaves.TheVariants as left
-use Rattle.world_spec.specs.HeldStores.{Answered, answered, with_facts, with_backend, facts_failed, objects_failed, Held, HeldStores, unless_failing, held_with, Ended, run, either}
+use Rattle.environment.specs.declared.memory.failing_call.Leaves.{Leaves}
+use Rattle.environment.specs.declared.memory.failing_call.Leaves.TheVariants as left
+use Rattle.world_spec.specs.Answers.{Answered, answered, with_facts, with_backend, facts_failed, objects_failed}
+use Rattle.world_spec.specs.Held.{Held, HeldStores, unless_failing}
+use Rattle.world_spec.specs.HeldLaws.{held_with}
+use Rattle.world_spec.specs.HeldRuns.{Ended, run, either}
 use Rattle.network.specs.Mail.{Mail, MayBeSent, posted, goes, oldest, is_among, most_messages}
-use Rattle.peer_plan.proofs.Aging.{steps_young}
+use Rattle.peer_spec.proofs.Aging.{steps_young}
 use Rattle.peer_state.specs.Ages.{IsYoung}
-use Rattle.peer_plan.specs.Drives.{step_of, MayCome}
-use Rattle.peer_plan.specs.Starts.{start_of}
+use Rattle.peer_spec.specs.Drives.{step_of, MayCome}
+use Rattle.peer_spec.specs.Starts.{start_of}
 use Rattle.peer_state.specs.declared.event.Event.{Event}
 use Rattle.peer_state.specs.declared.event.Event.TheVariants as events
 use Rattle.peer_state.specs.declared.state.Mode.{Mode}
@@ -26,14 +29,14 @@ use Rattle.schedule_text.specs.declared.event.ScheduleEvent.{ScheduleEvent}
 use Rattle.schedule_text.specs.declared.event.ScheduleEvent.TheVariants.{Call, Tick, Deliver, Pass, Lose, Calm, CalmAmong, Change, Stop, Start, Upgrade, Deepen, Spoil, Damage, Inner, Revert, Fail}
 use Rattle.schedule_text.specs.declared.keyword.StoreName.{StoreName}
 use Rattle.schedule_text.specs.declared.keyword.StoreName.TheVariants as names
-use Rattle.peer_fact.specs.declared.fact.Fact.{Fact}
-use Rattle.peer_fact.specs.declared.saved.SavedFact.{SavedFact}
+use Rattle.stored_formats.specs.declared.fact.Fact.{Fact}
+use Rattle.stored_formats.specs.declared.saved.SavedFact.{SavedFact}
 use Rattle.step_plans.specs.Calls.{Call as StoreCall, AnswerOf, Load, Save, FreshTree, OpenTree, Root, Find, Enter, ScanTree, ReadNode, Install, Fetch, Put, Hash}
 use Rattle.step_plans.specs.declared.error.PeerError.{PeerError}
 use Rattle.step_plans.specs.declared.error.PeerError.TheVariants.{StoreFault}
 use Rattle.step_plans.specs.Plans.{Plan, Done, Say, Ask, Ending, Stopped, nothing}
 use Rattle.step_plans.specs.Saved.{bare}
-use Rattle.leader_words.specs.declared.out.Outgoing.{Outgoing}
+use Rattle.leader_output.specs.declared.out.Outgoing.{Outgoing}
 use Rattle.wire_frames.specs.declared.frame.Frame.{Frame}
 use Rattle.world_spec.proofs.Ending.{Finishes, run_finishes}
 use Rattle.world_spec.proofs.Obeying.{IsFine, IsOwnNode, stepped_fine, changed_fine, started_own, stopped_own, over_stores_own, while_down_own}

@@ -1,7 +1,7 @@
 -- What the steps of one peer leave of the elections of others.
 use Rattle.std.specs.Prelude.{◌≡◌, ◌<◌, ◌≤◌, ℕ, true, false}
-use Rattle.abstract_protocol.specs.Ledger.{Ledger}
-use Rattle.election_laws.specs.Preparing.{proposer_of}
+use Rattle.protocol_laws.specs.Ledger.{Ledger}
+use Rattle.protocol_laws.specs.Preparing.{proposer_of}
 
 -- the steps of peer p led from ledger l to ledger m
 pub record Keeps (l m : Ledger) (p : ℕ) : Type 0 where

@@ -1,13 +1,13 @@
 -- The refinement relation, part by part: what a fact, a phase, a peer and a message assert about
 -- the ledger of the abstract protocol.
 use Rattle.std.specs.Prelude.{◌≡◌, ℕ, ◌<◌, ◌≤◌, ◌⊎◌, Bool, true, false, ◌||◌, nat_le, List, [], ◌∷◌, Option, None, Some, ◌==◌, if◌then◌else◌}
-use Rattle.abstract_protocol.specs.Ledger.{Ledger, Place, Change, Add, Drop, IsAtMost, IsFact, is_established}
-use Rattle.abstract_protocol.specs.Numbers.{epoch_number, IsEpoch}
-use Rattle.election_laws.specs.Preparing.{proposer_of}
-use Rattle.election.specs.declared.election.Election.{Election}
-use Rattle.election.specs.declared.election.Election.TheVariants.{Preparing, Starting}
+use Rattle.protocol_laws.specs.Ledger.{Ledger, Place, Change, Add, Drop, IsAtMost, IsFact, is_established}
+use Rattle.protocol_laws.specs.Numbers.{epoch_number, IsEpoch}
+use Rattle.protocol_laws.specs.Preparing.{proposer_of}
+use Rattle.phase_rules.specs.declared.election.Election.{Election}
+use Rattle.phase_rules.specs.declared.election.Election.TheVariants.{Preparing, Starting}
 use Rattle.ens_base.specs.PeerSet.{holds}
-use Rattle.joint_views.specs.Quorums.{is_quorum}
+use Rattle.quorums.specs.Quorums.{is_quorum}
 use Rattle.ens_base.specs.View.{IsPeer}
 use Rattle.ens_base.specs.declared.epoch.Epoch.{Epoch}
 use Rattle.peer_state.specs.declared.state.ChangeState.{ChangeState}
@@ -16,14 +16,14 @@ use Rattle.peer_state.specs.declared.state.Leadership.{Leadership}
 use Rattle.peer_state.specs.declared.state.Phase.{Phase}
 use Rattle.peer_state.specs.declared.state.Phase.TheVariants as phases
 use Rattle.peer_state.specs.declared.state.State.{State}
-use Rattle.peer_fact.specs.declared.fact.Change.{Change as FactChange}
-use Rattle.peer_fact.specs.declared.fact.Change.TheVariants as changes
-use Rattle.peer_fact.specs.declared.fact.Fact.{Fact}
-use Rattle.probe.specs.declared.probing.Probing.{Probing}
-use Rattle.running_sync.specs.Running.{Running}
-use Rattle.running_sync.specs.Sends.{AsksOthers}
-use Rattle.view_change.specs.declared.finishing.Finishing.{Finishing}
-use Rattle.leader_words.specs.declared.out.Outgoing.{Outgoing}
+use Rattle.stored_formats.specs.declared.fact.Change.{Change as FactChange}
+use Rattle.stored_formats.specs.declared.fact.Change.TheVariants as changes
+use Rattle.stored_formats.specs.declared.fact.Fact.{Fact}
+use Rattle.phase_rules.specs.declared.probing.Probing.{Probing}
+use Rattle.tree_sync.specs.Running.{Running}
+use Rattle.tree_sync.specs.Sends.{AsksOthers}
+use Rattle.phase_rules.specs.declared.finishing.Finishing.{Finishing}
+use Rattle.leader_output.specs.declared.out.Outgoing.{Outgoing}
 use Rattle.wire_frames.specs.declared.frame.Frame.{Frame}
 use Rattle.wire_frames.specs.declared.message.Message.{Message}
 use Rattle.wire_frames.specs.declared.message.Message.TheVariants as messages

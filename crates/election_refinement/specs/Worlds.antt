@@ -1,20 +1,20 @@
 -- When a world refines a run of the abstract protocol, and what follows for the world.
 use Rattle.std.specs.Prelude.{◌≡◌, ◌≢◌, ℕ, suc, ◌<◌, ◌≤◌, ◌⊎◌, List, [], ◌∷◌, ◌++◌, All, Option, Some, slice_get}
-use Rattle.abstract_protocol.specs.Ledger.{Ledger, IsAtMost}
-use Rattle.abstract_protocol.specs.Numbers.{epoch_number}
-use Rattle.abstract_protocol.specs.Protocol.{Step, IsRun, state_after}
-use Rattle.election_laws.specs.Elections.{IsLastOpen}
+use Rattle.protocol_laws.specs.Ledger.{Ledger, IsAtMost}
+use Rattle.protocol_laws.specs.Numbers.{epoch_number}
+use Rattle.protocol_laws.specs.Protocol.{Step, IsRun, state_after}
+use Rattle.protocol_laws.specs.Elections.{IsLastOpen}
 use Rattle.ens_base.specs.Epochs.{IsEpochBelow}
-use Rattle.joint_views.specs.Quorums.{SharesView}
+use Rattle.quorums.specs.Quorums.{SharesView}
 use Rattle.peer_state.specs.declared.state.Leadership.{Leadership}
 use Rattle.peer_state.specs.declared.state.Phase.TheVariants as phases
 use Rattle.peer_state.specs.declared.state.State.{State}
-use Rattle.peer_fact.specs.declared.fact.Fact.{Fact}
+use Rattle.stored_formats.specs.declared.fact.Fact.{Fact}
 use Rattle.schedule_text.specs.declared.event.ScheduleEvent.{ScheduleEvent}
 use Rattle.schedule_text.specs.declared.event.ScheduleEvent.TheVariants.{Stop, Fail}
 use Rattle.world_spec.specs.Nodes.{Node, Up, Down}
 use Rattle.world_spec.specs.Runs.{Run}
-use Rattle.world_spec.specs.HeldStores.{HeldStores}
+use Rattle.world_spec.specs.Held.{HeldStores}
 use Rattle.election_refinement.specs.Refinement.{fact_place, IsFactClosed, NodeHolds, FrameHolds, IsOrderly}
 use Rattle.step_plans.specs.Saved.{bare}
 

@@ -8,9 +8,9 @@ use Rattle.ens_base.specs.View.{IsView}
 pub filled : (xs buf : List ℕ) (i : ℕ) → i < length xs → length xs ≤ 9 → buf ≡ take i xs ++ replicate (9 - i) 0 → slice_set buf i (slice_index xs i) ≡ take (i + 1) xs ++ replicate (9 - (i + 1)) 0
 filled xs buf i below few is =
     let before : 9 - i ≡ suc (9 - (i + 1)) = omega (arith, below, few) in
-    let front : length (take i xs) ≡ i = omega (arith, length-take i xs, below) in
+    let prefix : length (take i xs) ≡ i = omega (arith, length-take i xs, below) in
     ap (λ (bs : List ℕ). slice_set bs i (slice_index xs i)) (is ∙ ap (λ (n : ℕ). take i xs ++ replicate n 0) before)
-    ∙ set_at (take i xs) 0 (replicate (9 - (i + 1)) 0) (slice_index xs i) i front
+    ∙ set_at (take i xs) 0 (replicate (9 - (i + 1)) 0) (slice_index xs i) i prefix
     ∙ sym (append_assoc (take i xs) (slice_index xs i ∷ []) (replicate (9 - (i + 1)) 0))
     ∙ ap (λ (bs : List ℕ). bs ++ replicate (9 - (i + 1)) 0) (sym (take_more xs i 0 below))
 

@@ -63,7 +63,7 @@ pub is_in-push : (ns : List ℕ) (m n : ℕ) → is_in (ns ++ m ∷ []) n ≡ (i
 is_in-push [] m n = grind arith
 is_in-push (k ∷ ns) m n = let rest = is_in-push ns m n in grind arith
 
--- a front has at most its length
+-- a prefix has at most its length
 pub take_few : {A : Type 0} (n : ℕ) (xs : List A) → length (take n xs) ≤ n
 take_few zero xs = omega arith
 take_few (suc n) [] = omega arith

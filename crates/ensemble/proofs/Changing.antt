@@ -7,10 +7,10 @@ use Rattle.backup_job.specs.Disks.{Between}
 use Rattle.backup_job.specs.Restored.{PrintsRestore, Restored}
 use Rattle.backup_job.proofs.Outlasting.{backed_prints, restored_prints}
 use Rattle.ens_base.specs.declared.status.Status.{Status}
-use Rattle.ens_words.specs.declared.job.Job.{Job}
-use Rattle.ens_words.specs.declared.job.Job.TheVariants.{Restore}
-use Rattle.peer_serve.specs.DiskPeers.{AreThere, Of}
-use Rattle.peer_serve.specs.declared.disks.Disks.{Disks}
+use Rattle.command_line.specs.declared.job.Job.{Job}
+use Rattle.command_line.specs.declared.job.Job.TheVariants.{Restore}
+use Rattle.peer_server.specs.DiskPeers.{AreThere, Of}
+use Rattle.peer_server.specs.declared.disks.Disks.{Disks}
 use Rattle.ensemble.specs.Top.{ReadsInput}
 
 -- ---- the disks are there

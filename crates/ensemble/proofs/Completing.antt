@@ -4,27 +4,26 @@ use Rattle.std.proofs.Common.{◌≡◌, ◌∙◌, ℕ, Bool, true, false, List
 use Rattle.backup_job.proofs.Completing.{runs_out as check_runs_out}
 use Rattle.backup_job.proofs.Outlasting.{backup_runs_out, restore_runs_out}
 use Rattle.cluster.specs.Ends.{EndsOverBook, RunEnds, Stopped, Unread, recorded_schedule}
-use Rattle.cluster_script.specs.Scripts.{script_of}
-use Rattle.cluster_script.specs.declared.line.ScriptLine.{ScriptLine}
-use Rattle.cluster_spec.specs.Recordings.{IsPart, Recording}
+use Rattle.scripts.specs.Scripts.{script_of}
+use Rattle.scripts.specs.declared.line.ScriptLine.{ScriptLine}
+use Rattle.cluster.specs.Recordings.{IsPart, Recording}
 use Rattle.ens_base.specs.Causes.{Rose}
 use Rattle.ens_base.specs.declared.peer_words.ClusterWords.{ClusterWords}
 use Rattle.ens_base.specs.declared.peer_words.PeerWords.{PeerWords}
 use Rattle.ens_base.specs.declared.status.Status.{Status}
-use Rattle.ens_words.specs.Forms.{AskFor}
-use Rattle.ensemble_root.proofs.Completing.{runs_out as root_runs_out}
-use Rattle.ens_words.specs.declared.job.Job.{Job}
-use Rattle.ens_words.specs.declared.job.Job.TheVariants.{Replay, Peer, Cluster, Audit, Backup, Check, Restore, Root, Generate}
-use Rattle.held_stores.specs.Held.{Account}
-use Rattle.peer_serve.specs.Serving.{Ended, Failed, Printed}
-use Rattle.peer_serve.specs.declared.disks.Disks.{Disks}
-use Rattle.record_report.proofs.Printing.{runs_out as report_runs_out}
-use Rattle.replay.proofs.Completing.{runs_out}
-use Rattle.replay.specs.Jobs.{PrintsWith, RanOut, nothing_hashed}
+use Rattle.command_line.specs.Forms.{AskFor}
+use Rattle.root.proofs.Completing.{runs_out as root_runs_out}
+use Rattle.command_line.specs.declared.job.Job.{Job}
+use Rattle.command_line.specs.declared.job.Job.TheVariants.{Replay, Peer, Cluster, Audit, Backup, Check, Restore, Root, Generate}
+use Rattle.world_spec.specs.Held.{Account}
+use Rattle.peer_server.specs.Serving.{Ended, Failed, Printed}
+use Rattle.peer_server.specs.declared.disks.Disks.{Disks}
+use Rattle.audit.proofs.Printing.{runs_out as report_runs_out}
+use Rattle.root.proofs.ReplayJob.{runs_out}
+use Rattle.root.specs.ReplayJob.{PrintsWith, RanOut, nothing_hashed, StaysWithin}
 use Rattle.schedule_text.specs.Spelling.{schedule_text}
 use Rattle.ensemble.proofs.Endings.{asked_one}
 use Rattle.ensemble.specs.Peers.{AreSound, HasBackedUp, HasRecorded, HasRestored, HasServed, OnOutside}
-use Rattle.replay.specs.Summary.{StaysWithin}
 use Rattle.schedule_generator.specs.Generated.{generate}
 use Rattle.ensemble.specs.Top.{Does, IsRecordable, IsUnhindered, PrintsSchedule, PrintsSummary}
 

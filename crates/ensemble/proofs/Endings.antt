@@ -2,22 +2,20 @@
 use Rattle.std.proofs.Common.{◌≡◌, ℕ, true, false, List, Option, Result, Ok, Err, sym, ap, subst, ◌∙◌}
 use Rattle.ens_base.specs.declared.status.Status.{Status}
 use Rattle.ens_base.proofs.Statuses.{memory_not_done, memory_no_fault}
-use Rattle.ens_words.specs.Forms.{AskFor, Reads}
-use Rattle.ens_words.specs.declared.job.Job.{Job}
-use Rattle.ens_words.specs.declared.job.Job.TheVariants.{Replay, Peer, Cluster, Audit, Backup, Check, Restore, Root, Generate}
-use Rattle.ens_words.specs.declared.job.WordsError.TheVariants.{Usage}
-use Rattle.ens_words.proofs.Exactly.{job_back}
-use Rattle.ens_words.specs.Reading.{job_of}
+use Rattle.command_line.specs.Forms.{AskFor, Reads}
+use Rattle.command_line.specs.declared.job.Job.{Job}
+use Rattle.command_line.specs.declared.job.Job.TheVariants.{Replay, Peer, Cluster, Audit, Backup, Check, Restore, Root, Generate}
+use Rattle.command_line.specs.declared.job.WordsError.TheVariants.{Usage}
+use Rattle.command_line.proofs.Exactly.{job_back}
+use Rattle.command_line.specs.Reading.{job_of}
 use Rattle.backup_job.proofs.Completing.{memory_read as check_memory_read, usage_read as check_usage_read, fault_at_usage}
 use Rattle.backup_job.specs.Printed.{HasRead as HasReadBackup}
 use Rattle.cluster.proofs.Outcomes.{memory_read as script_memory_read, usage_read as script_usage_read}
-use Rattle.ensemble_root.proofs.Completing.{memory_read as root_memory_read, usage_read as root_usage_read}
-use Rattle.ensemble_root.specs.Jobs.{HasRead as HasReadRoot}
-use Rattle.generated_laws.proofs.Short.{completed}
-use Rattle.record_input.proofs.Cutting.{none_taken as record_none_taken}
-use Rattle.replay.proofs.Completing.{memory_read, usage_read}
-use Rattle.replay.specs.Jobs.{HasRead}
-use Rattle.replay.specs.Summary.{EndsInSummary}
+use Rattle.root.proofs.Completing.{memory_read as root_memory_read, usage_read as root_usage_read}
+use Rattle.root.specs.Jobs.{HasRead as HasReadRoot}
+use Rattle.root.proofs.ReplayJob.{completed, memory_read, usage_read}
+use Rattle.audit.proofs.Cutting.{none_taken as record_none_taken}
+use Rattle.root.specs.ReplayJob.{HasRead, EndsInSummary}
 use Rattle.schedule_generator.specs.Generated.{generate}
 use Rattle.ensemble.specs.Top.{AskForNone, AskToRead, DidRead, Does, Ends, EndsGiven, EndsUnread, GivenFor, GivenToRead, HasReadRecord, PrintsSummary, ReadsInput}
 use Rattle.ensemble.specs.declared.arguments.ArgumentsError.{ArgumentsError}
@@ -125,10 +123,10 @@ pub asked_did_read : (words : List (List ℕ)) (job other : Job) (source left : 
 asked_did_read words job other source left before now status asks also did = subst (λ (j : Job). DidRead j source left before now status) (asked_one words job other asks also) did
 
 -- what a job that reads words ends with, for words that were read
-pub front_given : (given : Result (List (List ℕ)) ArgumentsError) (words : List (List ℕ)) (source : Option (List ℕ)) (Q : Job → Status → Type 0) (R : List ℕ → Type 0)
+pub prefix_given : (given : Result (List (List ℕ)) ArgumentsError) (words : List (List ℕ)) (source : Option (List ℕ)) (Q : Job → Status → Type 0) (R : List ℕ → Type 0)
     → (status : Status) × (text : List ℕ) × Ends words source status text × ((job : Job) → AskFor words job → Q job status) × R text
     → given ≡ Ok words → (status : Status) × (text : List ℕ) × EndsGiven given source status text × ((job : Job) → GivenFor given job → Q job status) × R text
-front_given given words source Q R f is = (
+prefix_given given words source Q R f is = (
   f.0,
   f.1,
   subst (λ (g : Result (List (List ℕ)) ArgumentsError). EndsGiven g source f.0 f.1) (sym is) f.2,

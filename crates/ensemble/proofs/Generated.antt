@@ -1,11 +1,8 @@
 -- A replay of the text of a generated schedule.
 use Rattle.std.proofs.Common.{◌≡◌, ◌≤◌, ℕ, List, Some, ap, ◌∙◌}
 use Rattle.ens_base.specs.declared.status.Status.{Status}
-use Rattle.replay.proofs.Endings.{forward_sound}
-use Rattle.replay.proofs.Texts.{one_text, text_replayed}
-use Rattle.replay.specs.Jobs.{EndsInRun, Prints}
-use Rattle.replay.specs.Summary.{summary_text}
-use Rattle.replay.specs.Worlds.{schedule_run}
+use Rattle.root.proofs.ReplayJob.{forward_sound, one_text, text_replayed}
+use Rattle.root.specs.ReplayJob.{EndsInRun, Prints, summary_text, schedule_run}
 use Rattle.schedule_generator.proofs.Calls.{generated_forward, generated_valid}
 use Rattle.schedule_generator.specs.Generated.{generate}
 use Rattle.schedule_text.specs.Spelling.{schedule_text}

@@ -2,18 +2,18 @@
 use Rattle.std.proofs.Common.{◌≡◌, ◌⊎◌, ◌∙◌, ℕ, List, [], ◌∷◌, take, drop, Option, None, refl, sym, inl, inr, ap, subst}
 use Rattle.std.specs.Io.KnownBytes.{Appends}
 use Rattle.cluster.specs.Ends.{BrokenOff, EndsOverBook, HasRead, IsCluster, Looked, PrintsRecord, RunEnds, Stopped, Unread, Went, opening}
-use Rattle.cluster_script.specs.declared.line.ScriptLine.{ScriptLine}
-use Rattle.cluster_script.specs.declared.line.ScriptLine.TheVariants.{Event, Turn}
-use Rattle.cluster_spec.specs.Recordings.{Recording, heard, heard_all, recorded}
+use Rattle.scripts.specs.declared.line.ScriptLine.{ScriptLine}
+use Rattle.scripts.specs.declared.line.ScriptLine.TheVariants.{Event, Turn}
+use Rattle.cluster.specs.Recordings.{Recording, heard, heard_all, recorded}
 use Rattle.ens_base.specs.Causes.{Rose}
 use Rattle.ens_base.specs.declared.peer_words.ClusterWords.{ClusterWords}
 use Rattle.ens_base.specs.declared.status.Status.{Status}
-use Rattle.ens_outside.specs.Written.{AppendsFront}
-use Rattle.ens_words.specs.Forms.{IsJob}
-use Rattle.ens_words.specs.declared.job.Job.{Job}
-use Rattle.ens_words.specs.declared.job.Job.TheVariants.{Cluster}
-use Rattle.held_stores.specs.Held.{Account}
-use Rattle.peer_serve.specs.Serving.{Printed}
+use Rattle.environment.specs.Written.{AppendsPrefix}
+use Rattle.command_line.specs.Forms.{IsJob}
+use Rattle.command_line.specs.declared.job.Job.{Job}
+use Rattle.command_line.specs.declared.job.Job.TheVariants.{Cluster}
+use Rattle.world_spec.specs.Held.{Account}
+use Rattle.peer_server.specs.Serving.{Printed}
 use Rattle.ensemble.specs.Top.{DidRead, IsMemoryText, ReadsInput}
 
 -- words that ask for a cluster
@@ -46,7 +46,7 @@ module _ {L : Type 0} (sent : L → Option (List (ℕ × List ℕ))) (given : L 
   unseen_stop first script r stop = record { part = stop.part; is_part = stop.is_part; looks = stop.looks; follows = stop.follows; came = stop.came; handed = record { looked = tt; sends = tt } }
 
   unseen_break : (script : List ScriptLine) → BrokenOff sent given w script a b → BrokenOff nothing_sent nothing_given w script (faults a) (faults b)
-  unseen_break script broken = record { part = broken.part; is_part = broken.is_part; looks = broken.looks; r = broken.r; follows = broken.follows; front = broken.front; rest = broken.rest; all = broken.all; most = broken.most; handed = record { looked = tt; sends = tt } }
+  unseen_break script broken = record { part = broken.part; is_part = broken.is_part; looks = broken.looks; r = broken.r; follows = broken.follows; prefix = broken.prefix; rest = broken.rest; all = broken.all; most = broken.most; handed = record { looked = tt; sends = tt } }
 
   unseen_memory : (first : Account) (script : List ScriptLine) → BrokenOff sent given w script a b ⊎ ((r : Recording) × Stopped sent given first w script r a b)
       → BrokenOff nothing_sent nothing_given w script (faults a) (faults b) ⊎ ((r : Recording) × Stopped nothing_sent nothing_given first w script r (faults a) (faults b))
@@ -96,7 +96,7 @@ record_memory w source text (before, now, (account, inr run)) = run.3.1
 module _ (P : Status → List ℕ → Type 0) (old new : Option (List ℕ)) (before now : ℕ) where
   -- the text with which a job ended, and what was printed of it
   pub printed_of : (result : Status) → ((result ≡ Status.WriteFault → ⊥) → (text : List ℕ) × P result text × Appends old new text)
-      → (result ≡ Status.WriteFault → (status : Status) × (text : List ℕ) × P status text × AppendsFront old new text) → (result ≡ Status.WriteFault → Rose before now)
+      → (result ≡ Status.WriteFault → (status : Status) × (text : List ℕ) × P status text × AppendsPrefix old new text) → (result ≡ Status.WriteFault → Rose before now)
       → (status : Status) × (text : List ℕ) × P status text × Printed old new before now status text result
-  printed_of Status.WriteFault written front failed = let f = front refl in (f.0, f.1, f.2, inr (refl, f.3, failed refl))
-  printed_of result written front failed = let p = written (λ e. cc e) in (result, p.0, p.1, inl (refl, p.2))
+  printed_of Status.WriteFault written prefix failed = let f = prefix refl in (f.0, f.1, f.2, inr (refl, f.3, failed refl))
+  printed_of result written prefix failed = let p = written (λ e. cc e) in (result, p.0, p.1, inl (refl, p.2))

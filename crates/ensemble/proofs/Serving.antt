@@ -5,13 +5,13 @@ use Rattle.ens_base.specs.Causes.{Rose}
 use Rattle.ens_base.specs.declared.peer_words.ClusterWords.{ClusterWords}
 use Rattle.ens_base.specs.declared.peer_words.PeerWords.{PeerWords}
 use Rattle.ens_base.specs.declared.status.Status.{Status}
-use Rattle.ens_outside.specs.Written.{AppendsFront}
-use Rattle.ens_words.specs.Forms.{AskFor}
-use Rattle.ens_words.specs.declared.job.Job.{Job}
-use Rattle.ens_words.specs.declared.job.Job.TheVariants.{Peer, Cluster, Backup, Restore}
-use Rattle.peer_serve.specs.Serving.{Ended, Printed}
-use Rattle.peer_serve.specs.declared.disks.Disks.{Disks}
-use Rattle.turn_spec.specs.Turns.{ignored_in, taken_in}
+use Rattle.environment.specs.Written.{AppendsPrefix}
+use Rattle.command_line.specs.Forms.{AskFor}
+use Rattle.command_line.specs.declared.job.Job.{Job}
+use Rattle.command_line.specs.declared.job.Job.TheVariants.{Peer, Cluster, Backup, Restore}
+use Rattle.peer_server.specs.Serving.{Ended, Printed}
+use Rattle.peer_server.specs.declared.disks.Disks.{Disks}
+use Rattle.peer_turns.specs.Turns.{ignored_in, taken_in}
 use Rattle.ensemble.proofs.Endings.{asked_one}
 use Rattle.ensemble.specs.Peers.{AskForOutside, GivenForOutside, OnOutside}
 use Rattle.ensemble.specs.Top.{DidRead, GivenFor, PrintsCounts}
@@ -36,11 +36,11 @@ pub whole_text : (w : PeerWords) (old new : Option (List ℕ)) (before now : ℕ
 whole_text w old new before now status text result prints (inl p) never = (text, subst (λ (s : Status). PrintsCounts w s text) (sym p.0) prints, p.1)
 whole_text w old new before now status text result prints (inr p) never = absurd (never p.0)
 
--- and a front if it failed
-pub front_text : (w : PeerWords) (old new : Option (List ℕ)) (before now : ℕ) (status : Status) (text : List ℕ) (result : Status) → PrintsCounts w status text → Printed old new before now status text result → result ≡ Status.WriteFault
-    → (status : Status) × (text : List ℕ) × PrintsCounts w status text × AppendsFront old new text × Rose before now
-front_text w old new before now status text result prints (inl p) is = absurd (subst (λ (s : Status). PrintsCounts w s text) (sym p.0 ∙ is) prints)
-front_text w old new before now status text result prints (inr p) is = (status, text, prints, p.1, p.2)
+-- and a prefix if it failed
+pub prefix_text : (w : PeerWords) (old new : Option (List ℕ)) (before now : ℕ) (status : Status) (text : List ℕ) (result : Status) → PrintsCounts w status text → Printed old new before now status text result → result ≡ Status.WriteFault
+    → (status : Status) × (text : List ℕ) × PrintsCounts w status text × AppendsPrefix old new text × Rose before now
+prefix_text w old new before now status text result prints (inl p) is = absurd (subst (λ (s : Status). PrintsCounts w s text) (sym p.0 ∙ is) prints)
+prefix_text w old new before now status text result prints (inr p) is = (status, text, prints, p.1, p.2)
 
 write_is_no_read : ◌≡◌ {A = Status} Status.WriteFault Status.ReadFault → ⊥
 write_is_no_read e = cc e
@@ -53,11 +53,11 @@ pub reads_nothing : (w : PeerWords) (old new : Option (List ℕ)) (before now : 
 reads_nothing w old new before now status text result prints (inl p) is = subst (λ (s : Status). PrintsCounts w s text) (sym p.0 ∙ is) prints
 reads_nothing w old new before now status text result prints (inr p) is = write_is_no_read (sym p.0 ∙ is)
 
--- a line was printed to the end, or to a front
-pub finished : (old new : Option (List ℕ)) (before now : ℕ) (status : Status) (text : List ℕ) (result : Status) → ((result ≡ Status.WriteFault → ⊥) → (result ≡ status) × Appends old new text) → (result ≡ Status.WriteFault → AppendsFront old new text)
+-- a line was printed to the end, or to a prefix
+pub finished : (old new : Option (List ℕ)) (before now : ℕ) (status : Status) (text : List ℕ) (result : Status) → ((result ≡ Status.WriteFault → ⊥) → (result ≡ status) × Appends old new text) → (result ≡ Status.WriteFault → AppendsPrefix old new text)
     → (result ≡ Status.WriteFault → Rose before now) → Printed old new before now status text result
-finished old new before now status text Status.WriteFault written front failed = inr (refl, front refl, failed refl)
-finished old new before now status text result written front failed = inl (written (λ e. cc e))
+finished old new before now status text Status.WriteFault written prefix failed = inr (refl, prefix refl, failed refl)
+finished old new before now status text result written prefix failed = inl (written (λ e. cc e))
 
 -- ---- the words
 

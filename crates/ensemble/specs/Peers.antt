@@ -9,12 +9,12 @@ use Rattle.ens_base.specs.Causes.{Rose}
 use Rattle.ens_base.specs.declared.peer_words.ClusterWords.{ClusterWords}
 use Rattle.ens_base.specs.declared.peer_words.PeerWords.{PeerWords}
 use Rattle.ens_base.specs.declared.status.Status.{Status}
-use Rattle.ens_words.specs.Forms.{AskFor}
-use Rattle.ens_words.specs.declared.job.Job.{Job}
-use Rattle.ens_words.specs.declared.job.Job.TheVariants.{Peer, Cluster, Backup, Restore}
-use Rattle.peer_serve.specs.Faults.{fault_text}
-use Rattle.peer_serve.specs.Serving.{Ended, Failed, Printed}
-use Rattle.peer_serve.specs.declared.disks.Disks.{Disks}
+use Rattle.command_line.specs.Forms.{AskFor}
+use Rattle.command_line.specs.declared.job.Job.{Job}
+use Rattle.command_line.specs.declared.job.Job.TheVariants.{Peer, Cluster, Backup, Restore}
+use Rattle.peer_server.specs.Faults.{fault_text}
+use Rattle.peer_server.specs.Serving.{Ended, Failed, Printed}
+use Rattle.peer_server.specs.declared.disks.Disks.{Disks}
 use Rattle.ensemble.specs.declared.arguments.ArgumentsError.{ArgumentsError}
 use Rattle.ensemble.specs.Top.{GivenFor}
 

@@ -3,29 +3,25 @@ use Rattle.std.specs.Prelude.{◌≡◌, ◌<◌, ℕ, true, false, List, [], �
 use Rattle.std.specs.Io.KnownBytes.{IsAtEnd}
 use Rattle.ens_base.specs.Causes.{Rose}
 use Rattle.backup_job.specs.Backed.{PrintsBackup}
-use Rattle.backup_job.specs.Printed.{IsCheckable, PrintsCheck}
-use Rattle.backup_job.specs.Printed.{HasRead as HasReadBackup}
+use Rattle.backup_job.specs.Printed.{IsCheckable, PrintsCheck, HasRead as HasReadBackup}
 use Rattle.backup_job.specs.Restored.{PrintsRestore}
-use Rattle.cluster.specs.Ends.{IsPastLines, PrintsRecord, opening, recorded_schedule}
-use Rattle.cluster.specs.Ends.{HasRead as HasReadScript}
-use Rattle.cluster_script.specs.Scripts.{script_of}
-use Rattle.cluster_script.specs.declared.line.ScriptLine.{ScriptLine}
-use Rattle.cluster_spec.specs.Recordings.{Follows, IsPart, Recording}
+use Rattle.cluster.specs.Ends.{IsPastLines, PrintsRecord, opening, recorded_schedule, HasRead as HasReadScript}
+use Rattle.scripts.specs.Scripts.{script_of}
+use Rattle.scripts.specs.declared.line.ScriptLine.{ScriptLine}
+use Rattle.cluster.specs.Recordings.{Follows, IsPart, Recording}
 use Rattle.ens_base.specs.declared.peer_words.ClusterWords.{ClusterWords}
 use Rattle.ens_base.specs.declared.peer_words.PeerWords.{PeerWords}
 use Rattle.ens_base.specs.declared.status.Status.{Status}
-use Rattle.ens_words.specs.Forms.{AskFor}
-use Rattle.ens_words.specs.declared.job.Job.{Job}
-use Rattle.ens_words.specs.declared.job.Job.TheVariants.{Replay, Peer, Cluster, Audit, Backup, Check, Restore, Root, Generate}
-use Rattle.ensemble_root.specs.Jobs.{HasRead as HasReadRoot, IsRunnable as IsRunnableRoot, Prints as PrintsRoot}
-use Rattle.peer_serve.specs.Faults.{fault_text}
-use Rattle.peer_serve.specs.Serving.{counts_text}
-use Rattle.record_input.specs.Reading.{WasCutOff, WasTakenTo}
-use Rattle.record_report.specs.Printed.{IsAuditable, PrintsReport}
-use Rattle.generated_laws.specs.Completed.{CompletesAll}
-use Rattle.held_stores.specs.Held.{HasNoClash}
-use Rattle.replay.specs.Jobs.{HasRead, IsRunnable, Prints, hashed_by}
-use Rattle.replay.specs.Summary.{EndsInSummary, StaysWithin}
+use Rattle.command_line.specs.Forms.{AskFor}
+use Rattle.command_line.specs.declared.job.Job.{Job}
+use Rattle.command_line.specs.declared.job.Job.TheVariants.{Replay, Peer, Cluster, Audit, Backup, Check, Restore, Root, Generate}
+use Rattle.root.specs.Jobs.{HasRead as HasReadRoot, IsRunnable as IsRunnableRoot, Prints as PrintsRoot}
+use Rattle.peer_server.specs.Faults.{fault_text}
+use Rattle.peer_server.specs.Serving.{counts_text}
+use Rattle.audit.specs.Reading.{WasCutOff, WasTakenTo}
+use Rattle.audit.specs.Printed.{IsAuditable, PrintsReport}
+use Rattle.root.specs.ReplayJob.{CompletesAll, HasRead, IsRunnable, Prints, hashed_by, EndsInSummary, StaysWithin}
+use Rattle.world_spec.specs.Held.{HasNoClash}
 use Rattle.schedule_generator.specs.Generated.{generate}
 use Rattle.schedule_text.specs.Spelling.{schedule_text}
 use Rattle.ensemble.specs.declared.arguments.ArgumentsError.{ArgumentsError}

@@ -2,15 +2,15 @@ ghost use Rattle.std.specs.Prelude.{◌≡◌, ◌≢◌, ◌≤◌, List, ℕ, 
 ghost use Rattle.std.specs.Io.KnownBytes.{Appends};
 ghost use Rattle.ens_base.specs.Causes.{Rose};
 ghost use Rattle.ens_base.specs.declared.status.Status.{Status};
-ghost use Rattle.ens_outside.specs.Written.{AppendsFront};
+ghost use Rattle.environment.specs.Written.{AppendsPrefix};
 ghost use Rattle.schedule_generator.specs.Generated.{generate as generated};
 ghost use Rattle.schedule_text.specs.Spelling.{schedule_text};
-ghost use Rattle.replay.specs.Summary.{EndsInSummary};
+ghost use Rattle.root.specs.ReplayJob.{EndsInSummary};
 ghost use Rattle.ensemble.specs.Top.{PrintsSchedule, PrintsSummary};
 
 use ens_base::Status;
-use ens_outside::{Sink, finish, write_all};
-use replay::summarize;
+use environment::{Sink, finish, write_all};
+use root::summarize;
 use schedule_generator::generate;
 use schedule_input::Ending;
 use schedule_text::write_schedule;
@@ -33,7 +33,7 @@ fn generated_text(alloc: Global, number: u64, calls: u64) -> Result<Vec<u8>, All
 pub fn print_generated<O: Sink>(alloc: Global, number: u64, calls: u64, output: &mut O) -> Status
     requires { calls ≤ 20000 }
     ensures printed { result ≢ Status.WriteFault → (text : List ℕ) × PrintsSchedule number calls result text × Appends (O.written output.old) (O.written output.new) text }
-    ensures front { result ≡ Status.WriteFault → (status : Status) × (text : List ℕ) × PrintsSchedule number calls status text × AppendsFront (O.written output.old) (O.written output.new) text }
+    ensures prefix { result ≡ Status.WriteFault → (status : Status) × (text : List ℕ) × PrintsSchedule number calls status text × AppendsPrefix (O.written output.old) (O.written output.new) text }
     ensures write { result ≡ Status.WriteFault → Rose (O.fault_count output.old) (O.fault_count output.new) }
 {
     let Ok(text) = generated_text(alloc, number, calls) else {
@@ -70,7 +70,7 @@ pub fn print_summary<O: Sink, R: Threads + Sync>(
 ) -> Status
     requires { calls ≤ 20000 }
     ensures printed { result ≢ Status.WriteFault → (text : List ℕ) × PrintsSummary number calls result text × Appends (O.written output.old) (O.written output.new) text }
-    ensures front { result ≡ Status.WriteFault → (status : Status) × (text : List ℕ) × PrintsSummary number calls status text × AppendsFront (O.written output.old) (O.written output.new) text }
+    ensures prefix { result ≡ Status.WriteFault → (status : Status) × (text : List ℕ) × PrintsSummary number calls status text × AppendsPrefix (O.written output.old) (O.written output.new) text }
     ensures write { result ≡ Status.WriteFault → Rose (O.fault_count output.old) (O.fault_count output.new) }
 {
     match summary_ending(rt, alloc, number, calls) {

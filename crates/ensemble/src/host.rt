@@ -1,13 +1,12 @@
 ghost use Rattle.std.specs.Prelude.{IfOk};
 ghost use Rattle.ensemble.specs.Arguments.{words_given};
 ghost use Rattle.ensemble.specs.Peers.{IsJobOf};
-ghost use Rattle.peer_serve.specs.DiskPeers.{AreThere};
+ghost use Rattle.peer_server.specs.DiskPeers.{AreThere};
 
 use crate::arguments::{ArgumentsError, words_of};
-use ens_words::{Job, WordsError, read_words};
-use host_adapters::FileDisk;
-use host_network::{ClockTicker, UdpLink};
-use peer_serve::Disks;
+use command_line::{Job, WordsError, read_words};
+use host::{ClockTicker, FileDisk, UdpLink};
+use peer_server::Disks;
 use std::alloc::{AllocError, Global};
 use std::fs::File;
 use std::io;

@@ -5,7 +5,7 @@
 //! `run_program` passes the words after the name of the program to `ensemble_main`. For the arguments
 //! `replay` and `cluster`, `ensemble_main` guarantees that every history it prints is legal; for `peer`,
 //! that it serves as the protocol defines. The clauses of both stand in `top.rt`; the definitions that
-//! they cite stand in `specs/Top` and `specs/Peers`, and in the crates replay, cluster and peer_serve.
+//! they cite stand in `specs/Top` and `specs/Peers`, and in the crates replay, cluster and peer_server.
 #![tactic(auto)]
 
 mod arguments;
@@ -16,7 +16,7 @@ mod top;
 
 use arguments::all_arguments;
 use ens_base::Status;
-use ens_outside::{ReaderSource, WriterSink, finish};
+use environment::{ReaderSource, WriterSink, finish};
 use host::{disks_of, job_of, link_of, stand_in, ticker_of};
 use std::env;
 use std::process::ExitCode;

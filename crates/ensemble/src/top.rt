@@ -4,27 +4,40 @@ ghost use Rattle.ens_base.specs.Causes.{Rose};
 ghost use Rattle.ens_base.specs.declared.peer_words.ClusterWords.{ClusterWords as OfCluster};
 ghost use Rattle.ens_base.specs.declared.peer_words.PeerWords.{PeerWords as Words};
 ghost use Rattle.ens_base.specs.declared.status.Status.{Status};
-ghost use Rattle.ens_outside.specs.Written.{AppendsFront};
-ghost use Rattle.ens_words.specs.Forms.{AskFor, IsJob};
-ghost use Rattle.ens_words.specs.declared.job.Job.{Job};
-ghost use Rattle.ens_words.specs.declared.job.Job.TheVariants as jobs;
+ghost use Rattle.environment.specs.Written.{AppendsPrefix};
+ghost use Rattle.command_line.specs.Forms.{AskFor, IsJob};
+ghost use Rattle.command_line.specs.declared.job.Job.{Job};
+ghost use Rattle.command_line.specs.declared.job.Job.TheVariants as jobs;
 ghost use Rattle.ensemble.specs.Arguments.{words_given};
-ghost use Rattle.ensemble.specs.Peers.{AreSound, AreUntouched, AskForOutside, CameToBackUp, CameToRecord, CameToRestore, CameToServe, GivenForOutside, HasBackedUp, HasRecorded, HasRestored, HasServed, OnOutside};
+ghost use Rattle.ensemble.specs.Peers.{
+  AreSound,
+  AreUntouched,
+  AskForOutside,
+  CameToBackUp,
+  CameToRecord,
+  CameToRestore,
+  CameToServe,
+  GivenForOutside,
+  HasBackedUp,
+  HasRecorded,
+  HasRestored,
+  HasServed,
+  OnOutside,
+};
 ghost use Rattle.ensemble.specs.Top.{AskToRead, DidRead, Does, Ends, EndsGiven, GivenFor, GivenToRead, IsUnhindered, ReadsInput};
-ghost use Rattle.peer_serve.specs.DiskPeers.{AreThere};
-ghost use Rattle.replay.specs.Jobs.{RanOut};
+ghost use Rattle.peer_server.specs.DiskPeers.{AreThere};
+ghost use Rattle.root.specs.ReplayJob.{RanOut};
 
 use crate::arguments::{ArgumentsError, words_of};
 use crate::generating::{print_generated, print_summary};
+use audit::print_report;
 use backup_job::{print_backup, print_check, restore_disks};
 use cluster::cluster;
+use command_line::{Job, WordsError, read_words};
 use ens_base::Status;
-use ens_outside::{Link, Sink, Source, Ticker, finish};
-use ens_words::{Job, WordsError, read_words};
-use ensemble_root::root;
-use peer_serve::{Disks, serve};
-use record_report::print_report;
-use replay::replay;
+use environment::{Link, Sink, Source, Ticker, finish};
+use peer_server::{Disks, serve};
+use root::{replay, root};
 use slot_disk::Disk;
 use std::alloc::Global;
 use std::thread::Threads;
@@ -44,15 +57,25 @@ fn run_job<S: Source, O: Sink, L: Link, D: Disk + Drop, T: Ticker, R: Threads + 
     requires job { IsJob job }
     requires there { AreThere disks.old }
     ensures printed { result ≢ Status.WriteFault → (text : List ℕ) × Does job (S.left input.old) result text × Appends (O.written output.old) (O.written output.new) text }
-    ensures front { result ≡ Status.WriteFault → (status : Status) × (text : List ℕ) × Does job (S.left input.old) status text × DidRead job (S.left input.old) (S.left input.new) (S.fault_count input.old) (S.fault_count input.new) status × AppendsFront (O.written output.old) (O.written output.new) text }
+    ensures prefix { result ≡ Status.WriteFault → (status : Status) × (text : List ℕ)
+        × Does job (S.left input.old) status text
+        × DidRead job (S.left input.old) (S.left input.new) (S.fault_count input.old) (S.fault_count input.new)
+        status × AppendsPrefix (O.written output.old) (O.written output.new) text }
     ensures input { result ≢ Status.WriteFault → DidRead job (S.left input.old) (S.left input.new) (S.fault_count input.old) (S.fault_count input.new) result }
     ensures untouched { ¬ ReadsInput job → input.new ≡ input.old }
     ensures read { result ≡ Status.ReadFault → Rose (S.fault_count input.old) (S.fault_count input.new) }
     ensures write { result ≡ Status.WriteFault → Rose (O.fault_count output.old) (O.fault_count output.new) }
-    ensures linked { OnOutside job (HasServed D.seen D.may_leave D.moment D.left_since D.fault_count L.sent L.given L.fault_count T.coming disks.old disks.new link.old link.new ticker.old ticker.new (O.written output.old) (O.written output.new) (O.fault_count output.old) (O.fault_count output.new) result)
-        (HasRecorded D.seen D.may_leave D.moment D.left_since D.fault_count L.sent L.given L.fault_count T.coming disks.old disks.new link.old link.new ticker.old ticker.new (S.left input.old) (O.written output.old) (O.written output.new) (O.fault_count output.old) (O.fault_count output.new) result)
-        (HasBackedUp D.seen D.fault_count disks.old disks.new link.old link.new ticker.old ticker.new (O.written output.old) (O.written output.new) (O.fault_count output.old) (O.fault_count output.new) result)
-        (HasRestored D.seen D.fault_count disks.old disks.new link.old link.new ticker.old ticker.new (S.left input.old) (O.written output.old) (O.written output.new) (O.fault_count output.old) (O.fault_count output.new) result)
+    ensures linked { OnOutside job (HasServed D.seen D.may_leave D.moment D.left_since D.fault_count L.sent L.given
+        L.fault_count T.coming disks.old disks.new link.old link.new ticker.old ticker.new (O.written output.old)
+        (O.written output.new) (O.fault_count output.old) (O.fault_count output.new) result)
+        (HasRecorded D.seen D.may_leave D.moment D.left_since D.fault_count L.sent L.given L.fault_count T.coming
+        disks.old disks.new link.old link.new ticker.old ticker.new (S.left input.old) (O.written output.old)
+        (O.written output.new) (O.fault_count output.old) (O.fault_count output.new) result)
+        (HasBackedUp D.seen D.fault_count disks.old disks.new link.old link.new ticker.old ticker.new
+        (O.written output.old) (O.written output.new) (O.fault_count output.old) (O.fault_count output.new) result)
+        (HasRestored D.seen D.fault_count disks.old disks.new link.old link.new ticker.old ticker.new
+        (S.left input.old) (O.written output.old) (O.written output.new) (O.fault_count output.old)
+        (O.fault_count output.new) result)
         (AreUntouched disks.old disks.new link.old link.new ticker.old ticker.new) }
     ensures there { AreThere disks.new }
 {
@@ -116,25 +139,43 @@ pub fn ensemble_main<S: Source, O: Sink, L: Link, D: Disk + Drop, T: Ticker, R: 
     // and a history for each key; for an audit, the report of the record that was read.
     ensures printed { result ≢ Status.WriteFault → (text : List ℕ) × Ends (map (λ w. w.now) words.now) (S.left input.old) result text × Appends (O.written output.old) (O.written output.new) text }
     // If the output failed, a prefix of the text with which the job would otherwise have ended.
-    ensures front { result ≡ Status.WriteFault → (status : Status) × (text : List ℕ) × Ends (map (λ w. w.now) words.now) (S.left input.old) status text × ((job : Job) → AskFor (map (λ w. w.now) words.now) job → DidRead job (S.left input.old) (S.left input.new) (S.fault_count input.old) (S.fault_count input.new) status) × AppendsFront (O.written output.old) (O.written output.new) text }
+    ensures prefix { result ≡ Status.WriteFault → (status : Status) × (text : List ℕ)
+        × Ends (map (λ w. w.now) words.now) (S.left input.old) status text
+        × ((job : Job) → AskFor (map (λ w. w.now) words.now) job
+        → DidRead job (S.left input.old) (S.left input.new) (S.fault_count input.old) (S.fault_count input.new)
+        status) × AppendsPrefix (O.written output.old) (O.written output.new) text }
     // How far a replay, an audit, a cluster, or the test or the restore of a backup read the input.
-    ensures input { result ≢ Status.WriteFault → (job : Job) → AskFor (map (λ w. w.now) words.now) job → DidRead job (S.left input.old) (S.left input.new) (S.fault_count input.old) (S.fault_count input.new) result }
+    ensures input { result ≢ Status.WriteFault → (job : Job) → AskFor (map (λ w. w.now) words.now) job
+        → DidRead job (S.left input.old) (S.left input.new) (S.fault_count input.old) (S.fault_count input.new) result }
     // No other job reads the input.
     ensures untouched { ¬ AskToRead (map (λ w. w.now) words.now) → input.new ≡ input.old }
     ensures read { result ≡ Status.ReadFault → Rose (S.fault_count input.old) (S.fault_count input.new) }
     ensures write { result ≡ Status.WriteFault → Rose (O.fault_count output.old) (O.fault_count output.new) }
     // If no other end has a cause, the job runs to its end, unless out of memory.
-    ensures completes { (job : Job) → AskFor (map (λ w. w.now) words.now) job → IsUnhindered job (S.left input.old) → AreSound D.seen D.may_leave D.moment D.left_since D.fault_count L.sent L.given L.fault_count T.coming disks.old disks.new link.old link.new ticker.old ticker.new job
+    ensures completes { (job : Job) → AskFor (map (λ w. w.now) words.now) job → IsUnhindered job (S.left input.old)
+        → AreSound D.seen D.may_leave D.moment D.left_since D.fault_count L.sent L.given L.fault_count T.coming
+        disks.old disks.new link.old link.new ticker.old ticker.new job
         → ¬ Rose (S.fault_count input.old) (S.fault_count input.new) → ¬ Rose (O.fault_count output.old) (O.fault_count output.new) → RanOut result }
     // What became of a peer: its turns, its steps and what they sent, its disks, and what it printed.
-    ensures served { (w : Words) → AskFor (map (λ w. w.now) words.now) (jobs.Peer w) → CameToServe D.seen D.may_leave D.moment D.left_since D.fault_count L.sent L.given L.fault_count T.coming disks.old disks.new link.old link.new ticker.old ticker.new (O.written output.old) (O.written output.new) (O.fault_count output.old) (O.fault_count output.new) result w }
+    ensures served { (w : Words) → AskFor (map (λ w. w.now) words.now) (jobs.Peer w)
+        → CameToServe D.seen D.may_leave D.moment D.left_since D.fault_count L.sent L.given L.fault_count T.coming
+        disks.old disks.new link.old link.new ticker.old ticker.new (O.written output.old) (O.written output.new)
+        (O.fault_count output.old) (O.fault_count output.new) result w }
     // What became of a cluster: its script, its looks, what was handed to the link, and what it printed.
-    ensures recorded { (w : OfCluster) → AskFor (map (λ w. w.now) words.now) (jobs.Cluster w) → CameToRecord D.seen D.may_leave D.moment D.left_since D.fault_count L.sent L.given L.fault_count T.coming disks.old disks.new link.old link.new ticker.old ticker.new (S.left input.old) (O.written output.old) (O.written output.new) (O.fault_count output.old) (O.fault_count output.new) result w }
+    ensures recorded { (w : OfCluster) → AskFor (map (λ w. w.now) words.now) (jobs.Cluster w)
+        → CameToRecord D.seen D.may_leave D.moment D.left_since D.fault_count L.sent L.given L.fault_count T.coming
+        disks.old disks.new link.old link.new ticker.old ticker.new (S.left input.old) (O.written output.old)
+        (O.written output.new) (O.fault_count output.old) (O.fault_count output.new) result w }
     // What became of the disks of nodes and of objects under a backup, and what it printed. The disk of facts, the
     // link and the ticker are as they were.
-    ensures backed { AskFor (map (λ w. w.now) words.now) jobs.Backup → CameToBackUp D.seen D.fault_count disks.old disks.new link.old link.new ticker.old ticker.new (O.written output.old) (O.written output.new) (O.fault_count output.old) (O.fault_count output.new) result }
+    ensures backed { AskFor (map (λ w. w.now) words.now) jobs.Backup
+        → CameToBackUp D.seen D.fault_count disks.old disks.new link.old link.new ticker.old ticker.new
+        (O.written output.old) (O.written output.new) (O.fault_count output.old) (O.fault_count output.new) result }
     // The same of a restore.
-    ensures restored { AskFor (map (λ w. w.now) words.now) jobs.Restore → CameToRestore D.seen D.fault_count disks.old disks.new link.old link.new ticker.old ticker.new (S.left input.old) (O.written output.old) (O.written output.new) (O.fault_count output.old) (O.fault_count output.new) result }
+    ensures restored { AskFor (map (λ w. w.now) words.now) jobs.Restore
+        → CameToRestore D.seen D.fault_count disks.old disks.new link.old link.new ticker.old ticker.new
+        (S.left input.old) (O.written output.old) (O.written output.new) (O.fault_count output.old)
+        (O.fault_count output.new) result }
     // Only a peer and a cluster touch the link, only a peer, a backup and a restore the disks, and only a peer
     // the ticker. The disks stay there.
     ensures alone { ¬ AskForOutside (map (λ w. w.now) words.now) → AreUntouched disks.old disks.new link.old link.new ticker.old ticker.new }
@@ -162,24 +203,42 @@ pub fn run_program<S: Source, O: Sink, L: Link, D: Disk + Drop, T: Ticker, R: Th
     requires there { AreThere disks.old }
     ensures printed { result ≢ Status.WriteFault → (text : List ℕ) × EndsGiven (words_given all.now) (S.left input.old) result text × Appends (O.written output.old) (O.written output.new) text }
     // If the output failed, a prefix of the text with which the program would otherwise have ended.
-    ensures front { result ≡ Status.WriteFault → (status : Status) × (text : List ℕ) × EndsGiven (words_given all.now) (S.left input.old) status text × ((job : Job) → GivenFor (words_given all.now) job → DidRead job (S.left input.old) (S.left input.new) (S.fault_count input.old) (S.fault_count input.new) status) × AppendsFront (O.written output.old) (O.written output.new) text }
+    ensures prefix { result ≡ Status.WriteFault → (status : Status) × (text : List ℕ)
+        × EndsGiven (words_given all.now) (S.left input.old) status text
+        × ((job : Job) → GivenFor (words_given all.now) job
+        → DidRead job (S.left input.old) (S.left input.new) (S.fault_count input.old) (S.fault_count input.new)
+        status) × AppendsPrefix (O.written output.old) (O.written output.new) text }
     // How far a replay, an audit, a cluster, or the test or the restore of a backup read the input.
-    ensures input { result ≢ Status.WriteFault → (job : Job) → GivenFor (words_given all.now) job → DidRead job (S.left input.old) (S.left input.new) (S.fault_count input.old) (S.fault_count input.new) result }
+    ensures input { result ≢ Status.WriteFault → (job : Job) → GivenFor (words_given all.now) job
+        → DidRead job (S.left input.old) (S.left input.new) (S.fault_count input.old) (S.fault_count input.new) result }
     // No other job reads the input.
     ensures untouched { ¬ GivenToRead (words_given all.now) → input.new ≡ input.old }
     ensures read { result ≡ Status.ReadFault → Rose (S.fault_count input.old) (S.fault_count input.new) }
     ensures write { result ≡ Status.WriteFault → Rose (O.fault_count output.old) (O.fault_count output.new) }
     // If no other end has a cause, the job runs to its end, unless out of memory.
-    ensures completes { (job : Job) → GivenFor (words_given all.now) job → IsUnhindered job (S.left input.old) → AreSound D.seen D.may_leave D.moment D.left_since D.fault_count L.sent L.given L.fault_count T.coming disks.old disks.new link.old link.new ticker.old ticker.new job
+    ensures completes { (job : Job) → GivenFor (words_given all.now) job → IsUnhindered job (S.left input.old)
+        → AreSound D.seen D.may_leave D.moment D.left_since D.fault_count L.sent L.given L.fault_count T.coming
+        disks.old disks.new link.old link.new ticker.old ticker.new job
         → ¬ Rose (S.fault_count input.old) (S.fault_count input.new) → ¬ Rose (O.fault_count output.old) (O.fault_count output.new) → RanOut result }
     // What became of a peer, unless memory ran out before its words were read.
-    ensures served { (w : Words) → GivenFor (words_given all.now) (jobs.Peer w) → CameToServe D.seen D.may_leave D.moment D.left_since D.fault_count L.sent L.given L.fault_count T.coming disks.old disks.new link.old link.new ticker.old ticker.new (O.written output.old) (O.written output.new) (O.fault_count output.old) (O.fault_count output.new) result w }
+    ensures served { (w : Words) → GivenFor (words_given all.now) (jobs.Peer w)
+        → CameToServe D.seen D.may_leave D.moment D.left_since D.fault_count L.sent L.given L.fault_count T.coming
+        disks.old disks.new link.old link.new ticker.old ticker.new (O.written output.old) (O.written output.new)
+        (O.fault_count output.old) (O.fault_count output.new) result w }
     // What became of a cluster, unless memory ran out before its words were read.
-    ensures recorded { (w : OfCluster) → GivenFor (words_given all.now) (jobs.Cluster w) → CameToRecord D.seen D.may_leave D.moment D.left_since D.fault_count L.sent L.given L.fault_count T.coming disks.old disks.new link.old link.new ticker.old ticker.new (S.left input.old) (O.written output.old) (O.written output.new) (O.fault_count output.old) (O.fault_count output.new) result w }
+    ensures recorded { (w : OfCluster) → GivenFor (words_given all.now) (jobs.Cluster w)
+        → CameToRecord D.seen D.may_leave D.moment D.left_since D.fault_count L.sent L.given L.fault_count T.coming
+        disks.old disks.new link.old link.new ticker.old ticker.new (S.left input.old) (O.written output.old)
+        (O.written output.new) (O.fault_count output.old) (O.fault_count output.new) result w }
     // What became of the disks under a backup, unless memory ran out before its word was read.
-    ensures backed { GivenFor (words_given all.now) jobs.Backup → CameToBackUp D.seen D.fault_count disks.old disks.new link.old link.new ticker.old ticker.new (O.written output.old) (O.written output.new) (O.fault_count output.old) (O.fault_count output.new) result }
+    ensures backed { GivenFor (words_given all.now) jobs.Backup
+        → CameToBackUp D.seen D.fault_count disks.old disks.new link.old link.new ticker.old ticker.new
+        (O.written output.old) (O.written output.new) (O.fault_count output.old) (O.fault_count output.new) result }
     // The same of a restore.
-    ensures restored { GivenFor (words_given all.now) jobs.Restore → CameToRestore D.seen D.fault_count disks.old disks.new link.old link.new ticker.old ticker.new (S.left input.old) (O.written output.old) (O.written output.new) (O.fault_count output.old) (O.fault_count output.new) result }
+    ensures restored { GivenFor (words_given all.now) jobs.Restore
+        → CameToRestore D.seen D.fault_count disks.old disks.new link.old link.new ticker.old ticker.new
+        (S.left input.old) (O.written output.old) (O.written output.new) (O.fault_count output.old)
+        (O.fault_count output.new) result }
     // Only a peer and a cluster touch the link, only a peer, a backup and a restore the disks, and only a peer
     // the ticker.
     ensures alone { ¬ GivenForOutside (words_given all.now) → AreUntouched disks.old disks.new link.old link.new ticker.old ticker.new }

@@ -5,8 +5,8 @@ use Rattle.slot_disk.specs.Crash.{LeavesOnly, SeenIn}
 use Rattle.slot_disk.specs.Slots.{record_in, last_serial}
 use Rattle.slot_disk.specs.SlotFiles.{remembered, IsAtRest}
 use Rattle.ens_base.specs.declared.refused.Refused.{Refused}
-use Rattle.peer_fact.specs.declared.saved.SavedFact.{SavedFact}
-use Rattle.peer_fact.specs.declared.error.FactError.{FactError}
+use Rattle.stored_formats.specs.declared.saved.SavedFact.{SavedFact}
+use Rattle.stored_formats.specs.declared.fact_error.FactError.{FactError}
 use Rattle.fact_store.specs.Keeping.{KeeperCall, KeeperAnswer, Load, Save, IsOldOrNewIn, IsBad, fact_in}
 use Rattle.fact_store.specs.declared.error.KeepError.{KeepError}
 use Rattle.fact_store.specs.declared.error.KeepError.TheVariants as errors

@@ -2,7 +2,7 @@ ghost use Rattle.std.specs.Prelude.{◌≡◌, ◌≤◌, ◌<◌, ◌⊎◌, �
 ghost use Rattle.slot_disk.specs.Crash.{Told, StaysSeen, LeavesOnly, SeenIn, IsOn};
 ghost use Rattle.slot_disk.specs.Slots.{record_in, last_serial};
 ghost use Rattle.slot_disk.specs.SlotFiles.{remembered, IsAtRest};
-ghost use Rattle.peer_fact.specs.SavedBytes.{saved_of};
+ghost use Rattle.stored_formats.specs.SavedBytes.{saved_of};
 ghost use Rattle.fact_store.specs.Keeping.{IsBad, Loads, IsOldOrNewIn, IsPutError, IsOpenError, opened_with, fact_in, file_fact};
 ghost use Rattle.fact_store.specs.declared.error.KeepError.TheVariants as errors;
 ghost use Rattle.slot_disk.specs.declared.error.SlotError.TheVariants as slot_errors;
@@ -10,9 +10,9 @@ ghost use Rattle.slot_disk.specs.declared.error.SlotError.TheVariants as slot_er
 use crate::error::KeepError;
 use crate::keeper::FactKeeper;
 use ens_base::Refused;
-use peer_fact::{Change, Fact, FactError, SavedFact};
 use slot_disk::{Disk, SlotError, SlotFile};
 use std::alloc::Global;
+use stored_formats::{Change, Fact, FactError, SavedFact};
 
 /// A fact on a disk, in a slot file. A save replaces it atomically, whenever a crash comes.
 #[derive(Drop)]

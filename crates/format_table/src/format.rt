@@ -1,6 +1,5 @@
-use ens_object::Object;
-use peer_fact::Fact;
 use std::alloc::Global;
+use stored_formats::{Fact, Object};
 use tree_node::{Position, TreeVersion, decode_inner, decode_segment};
 use wire_frames::decode_frame;
 

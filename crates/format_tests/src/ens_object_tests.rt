@@ -1,7 +1,7 @@
 use ens_base::{Digest, Entry, Epoch, Key, Value, Version};
-use ens_object::{Object, put_object, take_object};
 use std::alloc::Global;
 use std::test::Fail;
+use stored_formats::{Object, put_object, take_object};
 
 /// The version 1.1.1.
 const VERSION: Version = Version {

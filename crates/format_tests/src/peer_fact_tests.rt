@@ -1,6 +1,6 @@
 use ens_base::{PeerId, View, Views};
-use peer_fact::{Change, Fact, put_fact, take_fact};
 use std::test::Fail;
+use stored_formats::{Change, Fact, put_fact, take_fact};
 
 /// The opening fact of the view 1 2 3.
 const OPENING: [u8; 52] = [

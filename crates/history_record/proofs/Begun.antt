@@ -4,10 +4,10 @@ use Rattle.std.specs.Prelude.{◌==◌, nat_lt}
 use Rattle.std.proofs.lemmas.Bool.Decides.{nat_tests}
 use Rattle.std.proofs.lemmas.List.{length-append}
 use Rattle.ens_base.specs.Lists.{AreDistinct}
-use Rattle.schedule_words.specs.Causes.{or_cause}
-use Rattle.schedule_words.specs.Words.{words_of}
-use Rattle.schedule_words.specs.declared.cause.Cause.TheVariants.{Heading, Unfinished}
-use Rattle.schedule_words.proofs.Results.{bind_ok, ok_same}
+use Rattle.lexemes.specs.Causes.{or_cause}
+use Rattle.lexemes.specs.Words.{words_of}
+use Rattle.lexemes.specs.declared.cause.Cause.TheVariants.{Heading, Unfinished}
+use Rattle.lexemes.proofs.Results.{bind_ok, ok_same}
 use Rattle.schedule_text.proofs.Ids.{distinct_with}
 use Rattle.schedule_text.proofs.SchedulesRead.{if_repeated, at_line_ok, unless_lines, bounded_err}
 use Rattle.schedule_text.proofs.EventsRead.{short_enough}

@@ -1,3 +1,8 @@
+pub mod Lookups
+pub mod Legal
+pub mod Walks
+pub mod Found
+pub mod Shortened
 pub mod Begun
 pub mod Gathered
 pub mod Hearings

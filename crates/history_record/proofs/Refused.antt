@@ -2,11 +2,11 @@
 use Rattle.std.proofs.Common.{◌<◌, ◌≤◌, List, [], ◌∷◌, length, get_or, Result, Ok, Err, refl, arith}
 use Rattle.ens_base.specs.Results.{◌>>=◌}
 use Rattle.schedule_text.specs.Texts.{Word, texts}
-use Rattle.schedule_words.specs.Causes.{Refuses}
-use Rattle.schedule_words.specs.Words.{version_of}
-use Rattle.schedule_words.specs.declared.cause.Cause.{Cause}
-use Rattle.schedule_words.specs.declared.cause.WordError.{WordError}
-use Rattle.schedule_words.specs.declared.cause.WordError.TheVariants.{Bad, Memory}
+use Rattle.lexemes.specs.Causes.{Refuses}
+use Rattle.lexemes.specs.Words.{version_of}
+use Rattle.lexemes.specs.declared.cause.Cause.{Cause}
+use Rattle.lexemes.specs.declared.cause.WordError.{WordError}
+use Rattle.lexemes.specs.declared.cause.WordError.TheVariants.{Bad, Memory}
 use Rattle.history_record.specs.Flaws.{Rejects, form, form_error}
 use Rattle.history_record.specs.Lines.{value_from}
 use Rattle.history_record.specs.declared.flaw.Flaw.{Flaw}

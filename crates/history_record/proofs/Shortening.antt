@@ -6,14 +6,14 @@ use Rattle.ens_base.specs.Results.{◌>>=◌}
 use Rattle.register_model.specs.declared.answer.Answer.{Answer}
 use Rattle.register_model.specs.declared.call.Call.{Call}
 use Rattle.register_model.specs.declared.history.History.{History}
-use Rattle.history_faults.specs.Clauses.{first_stray}
-use Rattle.history_faults.specs.Shortened.{short_by, shortened}
-use Rattle.history_faults.proofs.Shortened.{short_again, short_key}
+use Rattle.history_record.specs.Clauses.{first_stray}
+use Rattle.history_record.specs.Shortened.{short_by, shortened}
+use Rattle.history_record.proofs.Shortened.{short_again, short_key}
 use Rattle.history_record.specs.Calls.{calls_from}
 use Rattle.history_record.specs.Kept.{IsSound}
 use Rattle.history_record.specs.Lines.{line_of}
 use Rattle.history_record.specs.Reading.{Stage, Before, Behind, and_then, behind, closed, end_stage, lines_of, most_in, next_stage, read_parts}
-use Rattle.history_record.specs.Shortened.{short_heard, short_last, short_next, short_record, short_result, short_stage, stage_with_short_last}
+use Rattle.history_record.specs.ShortRecords.{short_heard, short_last, short_next, short_record, short_result, short_stage, stage_with_short_last}
 use Rattle.history_record.specs.Telling.{Heard, has_history, next_heard, open_call, open_change, with_answer, with_change, with_history, with_line}
 use Rattle.history_record.specs.declared.error.AuditError.{AuditError}
 use Rattle.history_record.specs.declared.flaw.Flaw.{Flaw}

@@ -1,8 +1,8 @@
 -- What is wrong with a line behind the line `answers`.
 use Rattle.std.specs.Prelude.{◌≡◌, ℕ, Result, Ok, Err}
-use Rattle.schedule_words.specs.declared.cause.Cause.{Cause}
-use Rattle.schedule_words.specs.declared.cause.WordError.{WordError}
-use Rattle.schedule_words.specs.declared.cause.WordError.TheVariants as words
+use Rattle.lexemes.specs.declared.cause.Cause.{Cause}
+use Rattle.lexemes.specs.declared.cause.WordError.{WordError}
+use Rattle.lexemes.specs.declared.cause.WordError.TheVariants as words
 use Rattle.history_record.specs.declared.flaw.Flaw.{Flaw}
 use Rattle.history_record.specs.declared.flaw.Flaw.TheVariants.{Cut, Keyword, Words, Form, Subject, Time, Key}
 use Rattle.history_record.specs.declared.flaw.LineError.{LineError}

@@ -3,7 +3,7 @@ use Rattle.std.specs.Prelude.{◌≡◌, ℕ, ◌+◌, ◌≤◌, ◌++◌, List
 use Rattle.ens_base.specs.Lists.{◌∈◌, AreDistinct}
 use Rattle.register_model.specs.declared.answer.Answer.{Answer}
 use Rattle.register_model.specs.declared.call.Call.{Call}
-use Rattle.register_runs.specs.Places.{ArePlaces}
+use Rattle.register_checker.specs.Places.{ArePlaces}
 use Rattle.schedule_text.specs.declared.schedule.Schedule.{Schedule}
 use Rattle.history_record.specs.Calls.{calls_from, keys_of}
 use Rattle.history_record.specs.Telling.{Heard, open_call, open_change}
@@ -13,7 +13,7 @@ pub record IsFit (s : Schedule) : Type 0 where
   pub lines : length s.events + 3 ≤ 200000
   pub calls : AreDistinct (map (λ c. c.id) (calls_from 1 s.events))
 
--- what was told so far may be the front of a record
+-- what was told so far may be the prefix of a record
 pub record IsSound (h : Heard) : Type 0 where
   pub schedule : IsFit h.schedule
   pub answers : AreDistinct (map (λ a. a.id) h.answers)

@@ -1,3 +1,7 @@
+pub mod Lookups
+pub mod Clauses
+pub mod Faults
+pub mod Shortened
 pub mod Calls
 pub mod Records
 pub mod Flaws
@@ -5,4 +9,4 @@ pub mod Lines
 pub mod Telling
 pub mod Kept
 pub mod Reading
-pub mod Shortened
+pub mod ShortRecords

@@ -3,7 +3,7 @@ use Rattle.std.specs.Prelude.{ℕ, ◌-◌, ◌^◌, Bool, true, false, not, ◌
 use Rattle.ens_base.specs.Lists.{same_bytes}
 use Rattle.ens_base.specs.Results.{◌>>=◌}
 use Rattle.ens_base.specs.declared.reply.Reply.{Reply}
-use Rattle.schedule_words.specs.Words.{words_of, number_of, key_of, value_of, version_of}
+use Rattle.lexemes.specs.Words.{words_of, number_of, key_of, value_of, version_of}
 use Rattle.schedule_text.specs.Arguments.{has_empty}
 use Rattle.history_record.specs.Flaws.{form}
 use Rattle.history_record.specs.declared.flaw.Flaw.{Flaw}

@@ -1,7 +1,7 @@
 -- What reading a record gives, or at which line it stops and why.
 use Rattle.std.specs.Prelude.{◌≡◌, ℕ, ◌+◌, ◌≤◌, if◌then◌else◌, List, [], ◌∷◌, length, codes, Option, None, Some, Result, Ok, Err}
 use Rattle.ens_base.specs.Lists.{same_bytes, AreDistinct}
-use Rattle.schedule_words.specs.Words.{parts_of}
+use Rattle.lexemes.specs.Words.{parts_of}
 use Rattle.schedule_text.specs.Events.{line_limit}
 use Rattle.schedule_text.specs.Progress.{Progress, Blank, Running, lines_so_far}
 use Rattle.schedule_text.specs.Spelling.{call_ids}
@@ -133,7 +133,7 @@ abbrev pub HasDistinct : Progress → Type 0
 HasDistinct (Running form peers view events) = AreDistinct (call_ids events)
 HasDistinct p = Unit {0}
 
--- the lines read so far may be the front of a schedule
+-- the lines read so far may be the prefix of a schedule
 pub record IsBegun (p : Progress) : Type 0 where
   pub few : lines_so_far p ≤ 200000
   pub distinct : HasDistinct p

@@ -3,7 +3,7 @@ ghost use Rattle.history_record.specs.Lines.{most_bytes};
 ghost use Rattle.history_record.specs.Kept.{IsFit};
 ghost use Rattle.history_record.specs.Records.{IsRecord};
 ghost use Rattle.history_record.specs.Telling.{Hears, nothing_heard, next_heard, open_call, open_change, with_answer, with_change, with_history, with_line};
-ghost use Rattle.history_record.specs.Shortened.{with_short_last};
+ghost use Rattle.history_record.specs.ShortRecords.{with_short_last};
 ghost use Rattle.history_record.specs.Reading.{behind, Steps, end_stage, Behind};
 
 use crate::calls::calls_of;
@@ -11,10 +11,10 @@ use crate::error::AuditError;
 use crate::flaw::{Flaw, LineError};
 use crate::lines::{RecordLine, record_line};
 use crate::record::Record;
+use crate::stray::first_stray;
 use ens_base::{Key, Seq};
-use history_faults::first_stray;
+use register_checker::{Places, places_of_calls};
 use register_model::{Answer, Call, History};
-use register_runs::{Places, places_of_calls};
 use schedule_text::{Schedule, ScheduleEvent};
 use std::alloc::Global;
 use std::collections::{BTreeMap, BTreeSet};
@@ -54,10 +54,28 @@ impl Model for Hearing {
 
     ghost view = { λ s. record { lines = s.lines; schedule = s.schedule; answers = s.answers.items; changes = s.changes.items; latest = s.latest; histories = s.histories.items; keys = s.keys.keys } };
 
-    ghost invariant = { λ s. IsSound (record { lines = s.lines; schedule = s.schedule; answers = s.answers.items; changes = s.changes.items; latest = s.latest; histories = s.histories.items; keys = s.keys.keys })
+    ghost invariant = { λ s. IsSound
+        (record {
+          lines = s.lines;
+          schedule = s.schedule;
+          answers = s.answers.items;
+          changes = s.changes.items;
+          latest = s.latest;
+          histories = s.histories.items;
+          keys = s.keys.keys;
+        })
         × IsKept (record { lines = s.lines; schedule = s.schedule; answers = s.answers.items; changes = s.changes.items; latest = s.latest; histories = s.histories.items; keys = s.keys.keys })
         (get nat_cmp s.open_calls) (get nat_cmp s.open_changes) (length s.open_calls.entries + (length s.open_changes.entries + length s.keys.keys))
-        × IsIndexed (record { lines = s.lines; schedule = s.schedule; answers = s.answers.items; changes = s.changes.items; latest = s.latest; histories = s.histories.items; keys = s.keys.keys }) s.calls.items (place nat_eq s.places.at) };
+        × IsIndexed (record {
+          lines = s.lines;
+          schedule = s.schedule;
+          answers = s.answers.items;
+          changes = s.changes.items;
+          latest = s.latest;
+          histories = s.histories.items;
+          keys = s.keys.keys;
+        })
+        s.calls.items (place nat_eq s.places.at) };
 }
 
 impl Hearing {

@@ -1,7 +1,7 @@
 ghost use Rattle.std.specs.Prelude.{◌≡◌};
 
 use ens_base::CopyError;
-use register_runs::RunError;
+use register_checker::RunError;
 use schedule_text::ScheduleError;
 use std::alloc::{AllocError, AllocFailed};
 

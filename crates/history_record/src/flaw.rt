@@ -1,7 +1,7 @@
 ghost use Rattle.std.specs.Prelude.{◌≡◌};
 ghost use Rattle.history_record.specs.Flaws.{flaw_number};
 
-use schedule_words::{Cause, WordError};
+use lexemes::{Cause, WordError};
 use std::alloc::{AllocError, AllocFailed};
 
 /// Why a line behind the line `answers` is rejected. The flaws are numbered from 10 in this order, and the

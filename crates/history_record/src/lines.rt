@@ -2,13 +2,29 @@ ghost use Rattle.std.specs.Prelude.{◌≡◌};
 ghost use Rattle.schedule_text.specs.Arguments.{has_empty};
 ghost use Rattle.schedule_text.specs.Texts.{texts};
 ghost use Rattle.history_record.specs.Flaws.{Finds};
-ghost use Rattle.history_record.specs.Lines.{answer_from, answer_of, change_from, change_of, history_from, history_of, ids_from, line_from, line_of, number, ok_from, outcome_of, plain, reply_from, value_from};
+ghost use Rattle.history_record.specs.Lines.{
+  answer_from,
+  answer_of,
+  change_from,
+  change_of,
+  history_from,
+  history_of,
+  ids_from,
+  line_from,
+  line_of,
+  number,
+  ok_from,
+  outcome_of,
+  plain,
+  reply_from,
+  value_from,
+};
 
 use crate::flaw::{Flaw, LineError};
 use crate::reply_name::ReplyName;
 use ens_base::{Reply, Seq};
+use lexemes::{Cause, key, line_words, number as number_word, value, version};
 use register_model::{Answer, History};
-use schedule_words::{Cause, key, line_words, number as number_word, value, version};
 use std::alloc::Global;
 
 /// The most bytes of a line behind the line `answers`.

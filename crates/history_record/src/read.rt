@@ -5,7 +5,7 @@ ghost use Rattle.history_record.specs.Records.{IsRecord};
 use crate::error::AuditError;
 use crate::reading::RecordReading;
 use crate::record::Record;
-use schedule_words::parts;
+use lexemes::parts;
 use std::alloc::Global;
 
 /// Returns the record that the text is, or the number of its first bad line and the cause. In the lines

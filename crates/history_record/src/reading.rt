@@ -1,7 +1,7 @@
 ghost use Rattle.std.specs.Prelude.{◌≡◌, ◌+◌, ◌<◌, ◌≤◌, ℕ, List, length, Ok, Err, IfErr, IfOk, OnErr, OnOk};
 ghost use Rattle.history_record.specs.Kept.{IsFit};
 ghost use Rattle.history_record.specs.Records.{IsRecord};
-ghost use Rattle.history_record.specs.Shortened.{stage_with_short_last};
+ghost use Rattle.history_record.specs.ShortRecords.{stage_with_short_last};
 ghost use Rattle.history_record.specs.Reading.{Steps, after_error, end_stage, first_stage, lines_of, missing, most_in, next_stage};
 
 use crate::behind::Hearing;

@@ -5,15 +5,15 @@
 
 use disk_stores::{DiskBackend, DiskNodes};
 use ens_base::{Key, PeerId, View};
-use ens_hashing::{Hasher16, PlainHasher};
-use ens_outside::{Backend, NodeStore};
+use environment::{Backend, NodeStore};
 use fact_store::{FactFile, FactKeeper};
-use host_adapters::FileDisk;
-use peer_fact::{Fact, SavedFact};
+use hash_book::{Hasher16, PlainHasher};
+use host::FileDisk;
 use std::alloc::Global;
 use std::fs::File;
 use std::io;
 use std::rt::Files;
+use stored_formats::{Fact, SavedFact};
 
 /// Returns the number in these bytes, or 0 if they are not eight.
 fn number_in(bytes: Option<Vec<u8>>) -> u64 {

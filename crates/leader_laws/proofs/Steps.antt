@@ -1,165 +1,177 @@
--- Steps that are of no row of a leader keep its table; and messages stay true.
-use Rattle.ens_base.specs.Lists.{◌∈◌}
-use Rattle.entry_laws.proofs.Later.{stay_step}
-use Rattle.entry_laws.specs.Stays.{EntriesStay}
-use Rattle.std.proofs.Common.{[], ◌∷◌, ◌≡◌, ℕ, ◌<◌, ◌≤◌, true, ◌⊎◌, List, Option, None, Some, arith, ap, refl, inl, inr, sym, ◌∙◌, subst, le_trans}
-use Rattle.register_model.specs.declared.call.Call.{Call}
-use Rattle.version_laws.proofs.Maps.{put_here, eq_same_bytes}
-use Rattle.version_laws.proofs.Dead.{settled_alive}
-use Rattle.abstract_protocol.specs.Ledger.{put}
-use Rattle.version_laws.proofs.Descent.{Whole}
-use Rattle.version_laws.specs.Versions.{VersionsAreSafe, IsDead}
-use Rattle.entry_laws.specs.Entries.{EntriesAreSafe}
-use Rattle.abstract_protocol.specs.Objects.{epoch_of, set_entry, IsGenuine}
-use Rattle.abstract_protocol.specs.Protocol.{State, Step, Begin, Ask, Raise, Elect, Accept, Commit, Adopt, Write, Acknowledge, Install, EndSync, Propose, Settle, Note, Answer, Lose, Revert, happens, MayCome, MayAll}
-use Rattle.version_laws.proofs.Stays.{genuine_stays}
-use Rattle.leader_laws.proofs.Growth.{object_stays, genuine_proposed, spared_step, row_stays, call_spared_step, owes_stay, owed_home}
-use Rattle.leader_laws.specs.Tables.{calls_owed, Ghosts, Object, Leader, Turn, calls_of}
-use Rattle.leader_laws.specs.Leaders.{IsObjectOf, LeaderHolds, TurnHolds, TurnsHold}
-use Rattle.leader_laws.specs.Messages.{GetSays, CheckSays, PutSays, GetReplySays, CheckReplySays}
-use Rattle.leader_laws.specs.Moves.{CallSpared, SparesCall, RowSpared, IsOfOthers, SparesLeader, GhostsGrow, SparesRow}
+-- What each rule on a key keeps to, and each reply of a member.
+use Rattle.std.specs.Prelude.{IsSome}
+use Rattle.std.proofs.Common.{◌≡◌, ◌<◌, ◌∙◌, ◌&&◌, sym, refl, subst, inl, lit<, ℕ, Bool, false, List, [], ◌∷◌, Option, Some, None}
+use Rattle.ens_base.specs.Epochs.{same_version}
+use Rattle.ens_base.specs.declared.entry.Entry.{Entry}
+use Rattle.ens_base.specs.declared.epoch.Epoch.{Epoch}
+use Rattle.ens_base.specs.declared.epoch.Version.{Version}
+use Rattle.ens_base.specs.declared.reply.Reply.{Reply}
+use Rattle.stored_formats.specs.declared.object.Object.{Object}
+use Rattle.phase_rows.specs.Orders.{is_same}
+use Rattle.quorums.specs.Rounds.{answered as heard_from, state_of}
+use Rattle.quorums.specs.declared.round.Round.{Round}
+use Rattle.quorums.specs.declared.round.RoundState.{RoundState}
+use Rattle.quorums.specs.declared.round.RoundState.TheVariants.{Open, Met, AllAnswered}
+use Rattle.phase_rows.specs.declared.phase.Seen.{Seen}
+use Rattle.phase_rows.specs.declared.phase.Seen.TheVariants as seens
+use Rattle.phase_rows.specs.declared.phase.Then.TheVariants.{Stay, OnKeys}
+use Rattle.phase_rows.specs.declared.rules.KeyRule.{KeyRule}
+use Rattle.phase_rows.specs.declared.rules.KeyRule.TheVariants as key_rules
+use Rattle.call_table.specs.Best.{better}
+use Rattle.call_table.specs.Calls.{running}
+use Rattle.call_table.specs.Rows.{row_at, check_at}
+use Rattle.call_table.specs.declared.row.Found.{Found}
+use Rattle.call_table.specs.declared.row.Stage.{Stage}
+use Rattle.call_table.specs.declared.row.Stage.TheVariants as stages
+use Rattle.call_table.specs.declared.waiting.Waiting.{Waiting}
+use Rattle.leader_output.specs.declared.out.LeadOut.{LeadOut}
+use Rattle.leader.specs.Leaders.{with_task, stands}
+use Rattle.leader.specs.Starts.{row_36}
+use Rattle.leader.specs.Rounds.{counts, asked, heard, row_29_reply, row_30, row_33, goes_on_checking, stood, stood_at, row_33_reply, row_34}
+use Rattle.leader.specs.Puts.{row_31, row_32, put_for, row_35, acknowledged_by, row_35_reply}
+use Rattle.leader.specs.Rules.{lead_row}
+use Rattle.leader_laws.specs.Measure.{turns_of, turns_again, turns_seen, task_turns}
+use Rattle.leader_laws.specs.Steps.{ProposesAt, Runs, Fits, IsReady, IsCalm, IsAtRest, CountsIn}
+use Rattle.leader.specs.declared.leader.Leader.{Leader}
+use Rattle.leader.specs.declared.pending.Pending.{Pending}
+use Rattle.leader.specs.declared.pending.Pending.TheVariants as tasks
+use Rattle.leader_laws.proofs.Votes.{answered_on}
+use Rattle.leader.proofs.Cases.{either}
+use Rattle.leader_laws.proofs.Moves.{IsStep, stands_moves, none_may, goes, free, IsFree, room_at, idle_step, runs, on_ready}
+use Rattle.leader_laws.proofs.Rows.{row_28_step, row_36_step, row_29_step, read_step, row_30_step, row_31_step, row_32_step, row_33_step, row_34_step, acknowledged_step, row_35_step}
 
--- ## The table
+-- ## Any rule on a key
 
-pub leader_stays : (g h : Ghosts) (s t : State) (l : Leader) → EntriesStay s t → GhostsGrow s g h → ((r : ℕ) → l.round < r → h.turn l.epoch r ≡ None) → ((k : List ℕ) → RowSpared s t l.epoch k (calls_of (l.rows k))) → ((i : ℕ) → i ∈ calls_owed l.seat.owed → CallSpared s t i) → LeaderHolds g s l → LeaderHolds h t l
-leader_stays g h s t l stay ghosts rounds spared owed a = record {
-  led = a.led;
-  elected = stay.versions.ledger.elected l.epoch a.elected;
-  established = stay.versions.ledger.established l.epoch a.elected a.established;
-  numbers = λ v p e. a.numbers v ((spared (t.objects.key v)).untouched v p refl e) e;
-  rounds = rounds;
-  rows = λ k. row_stays g h s t l.seat l.epoch k stay ghosts a.elected (l.rows k) (spared k) (a.rows k);
-  owes = owes_stay g h s t l.seat.peer l.seat.owed stay ghosts owed a.owes;
-}
+some_of : (rule : KeyRule) → 0 < turns_of rule
+some_of key_rules.StartCall = lit< tt
+some_of key_rules.Read = lit< tt
+some_of key_rules.EnoughReplies = lit< tt
+some_of key_rules.Write = lit< tt
+some_of key_rules.Rewrite = lit< tt
+some_of key_rules.Check = lit< tt
+some_of key_rules.Apply = lit< tt
+some_of key_rules.Put = lit< tt
+some_of key_rules.StartNextCall = lit< tt
 
-pub leader_step : (g h : Ghosts) (s : State) (e : Step) (l : Leader) → MayCome s e → Whole s.objects → GhostsGrow s g h → ((r : ℕ) → l.round < r → h.turn l.epoch r ≡ None) → SparesLeader s l e → LeaderHolds g s l → LeaderHolds h (happens s e) l
-leader_step g h s e l may w ghosts rounds spares a = leader_stays g h s (happens s e) l (stay_step s e may) ghosts rounds (λ k. spared_step s e l.epoch k (calls_of (l.rows k)) (spares.rows k)) (λ i m. call_spared_step s e i (spares.owed i m)) a
+some_again : (rule : KeyRule) → 0 < turns_again rule
+some_again key_rules.StartCall = lit< tt
+some_again key_rules.Read = lit< tt
+some_again key_rules.EnoughReplies = lit< tt
+some_again key_rules.Write = lit< tt
+some_again key_rules.Rewrite = lit< tt
+some_again key_rules.Check = lit< tt
+some_again key_rules.Apply = lit< tt
+some_again key_rules.Put = lit< tt
+some_again key_rules.StartNextCall = lit< tt
 
--- the steps of others are of no call here
-others_spare_call : (g : Ghosts) (l : Leader) (e : Step) (i : ℕ) → g.home i ≡ l.seat.peer → IsOfOthers g l e → SparesCall i e
-others_spare_call g l (Propose v j u x y c) i home others = λ same. others.1 i same home
-others_spare_call g l (Note j k u d) i home others = λ same. others (rw same home)
-others_spare_call g l (Answer j r) i home others = λ same. others (rw same home)
-others_spare_call g l e i home others = tt
+pub some_turns : (rule : KeyRule) (seen : Seen) → 0 < turns_seen rule seen
+some_turns rule seens.Nothing = some_of rule
+some_turns rule (seens.Kept kept) = some_again rule
+some_turns rule (seens.Damaged at) = some_again rule
+some_turns rule (seens.Held entry object) = some_again rule
+some_turns rule (seens.Stored d) = some_again rule
 
--- the steps of others
-others_spare_row : (g : Ghosts) (s : State) (l : Leader) (e : Step) → LeaderHolds g s l → IsOfOthers g l e → (k : List ℕ) → SparesRow s l.epoch k (calls_of (l.rows k)) e
-others_spare_row g s l (Propose v j u x y c) a others k = (λ e same. others.0 e, λ i m same. others.1 i same ((a.rows k).calls i m).home)
-others_spare_row g s l (Settle v) a others k = λ e same. others e
-others_spare_row g s l (Note i j u d) a others k = λ m. others ((a.rows k).calls i m).home
-others_spare_row g s l (Answer i r) a others k = λ m. others ((a.rows k).calls i m).home
-others_spare_row g s l Begin a others k = tt
-others_spare_row g s l (Ask c) a others k = tt
-others_spare_row g s l (Raise p d) a others k = tt
-others_spare_row g s l (Elect d b) a others k = tt
-others_spare_row g s l (Accept p d) a others k = tt
-others_spare_row g s l (Commit d c) a others k = tt
-others_spare_row g s l (Adopt p d) a others k = tt
-others_spare_row g s l (Write p v) a others k = tt
-others_spare_row g s l (Acknowledge p v) a others k = tt
-others_spare_row g s l (Install p d m) a others k = tt
-others_spare_row g s l (EndSync p d) a others k = tt
-others_spare_row g s l (Lose p) a others k = tt
-others_spare_row g s l (Revert p m) a others k = tt
+-- rule 30 and the like take nothing from the stores
+blind : (rule : KeyRule) (key : List ℕ) (Ready : Type 0) (l : Leader) (r : Leader × LeadOut) (seen : Seen) → turns_again rule ≡ turns_of rule → IsStep rule key (turns_of rule) Ready l r → IsStep rule key (turns_seen rule seen) Ready l r
+blind rule key Ready l r seens.Nothing e s = s
+blind rule key Ready l r (seens.Kept kept) e s = subst (λ (size : ℕ). IsStep rule key size Ready l r) (sym e) s
+blind rule key Ready l r (seens.Damaged at) e s = subst (λ (size : ℕ). IsStep rule key size Ready l r) (sym e) s
+blind rule key Ready l r (seens.Held entry object) e s = subst (λ (size : ℕ). IsStep rule key size Ready l r) (sym e) s
+blind rule key Ready l r (seens.Stored d) e s = subst (λ (size : ℕ). IsStep rule key size Ready l r) (sym e) s
 
-pub others_spare : (g : Ghosts) (s : State) (l : Leader) (e : Step) → LeaderHolds g s l → IsOfOthers g l e → SparesLeader s l e
-others_spare g s l e a others = record { rows = others_spare_row g s l e a others; owed = λ i m. others_spare_call g l e i (owed_home g s l.seat.peer l.seat.owed i a.owes m) others }
+-- each rule on a key
+pub lead_step : (rule : KeyRule) (key : List ℕ) (seen : Seen) (l : Leader) → IsStep rule key (turns_seen rule seen) (IsReady rule key l) l (lead_row rule key seen l)
+lead_step key_rules.StartCall key seen l = row_28_step key seen l
+lead_step key_rules.Read key seen l = row_29_step key seen l
+lead_step key_rules.EnoughReplies key seen l = blind key_rules.EnoughReplies key (IsReady key_rules.EnoughReplies key l) l (row_30 key l) seen refl (row_30_step key l)
+lead_step key_rules.Write key seen l = blind key_rules.Write key (IsReady key_rules.Write key l) l (row_31 key l) seen refl (row_31_step key l)
+lead_step key_rules.Rewrite key seen l = blind key_rules.Rewrite key (IsReady key_rules.Rewrite key l) l (row_32 key l) seen refl (row_32_step key l)
+lead_step key_rules.Check key seen l = blind key_rules.Check key (IsReady key_rules.Check key l) l (row_33 key l) seen refl (row_33_step key l)
+lead_step key_rules.Apply key seen l = blind key_rules.Apply key (IsReady key_rules.Apply key l) l (row_34 key l) seen refl (row_34_step key l)
+lead_step key_rules.Put key seen l = row_35_step key seen l
+lead_step key_rules.StartNextCall key seen l = blind key_rules.StartNextCall key (IsReady key_rules.StartNextCall key l) l (row_36 key l) seen refl (row_36_step key l)
 
-pub others_step : (g h : Ghosts) (s : State) (e : Step) (l : Leader) → MayCome s e → Whole s.objects → GhostsGrow s g h → ((r : ℕ) → l.round < r → h.turn l.epoch r ≡ None) → IsOfOthers g l e → LeaderHolds g s l → LeaderHolds h (happens s e) l
-others_step g h s e l may w ghosts rounds others a = leader_step g h s e l may w ghosts rounds (others_spare g s l e a others) a
+-- ## Replies of the members
 
--- ## Rounds and messages
-
-turn_base : (s t : State) (x : Turn) → EntriesStay s t → Whole s.objects → s.book.called x.call ≡ true → (x.base ≡ 0) ⊎ ((s.objects.settled x.base ≡ true) × (s.objects.key x.base ≡ (s.book.asked x.call).key)) → (x.base ≡ 0) ⊎ ((t.objects.settled x.base ≡ true) × (t.objects.key x.base ≡ (t.book.asked x.call).key))
-turn_base s t x stay w called (inl z) = inl z
-turn_base s t x stay w called (inr b) = inr (stay.versions.settled x.base b.0, stay.versions.key x.base (w.settled.proposed x.base b.0) ∙ b.1 ∙ sym (ap (λ (c : Call). c.key) (stay.asked x.call called)))
-
-pub turn_stays : (s t : State) (d : ℕ) (x : Turn) → EntriesStay s t → Whole s.objects → TurnHolds s d x → TurnHolds t d x
-turn_stays s t d x stay w a = record { elected = stay.versions.ledger.elected d a.elected; called = stay.called x.call a.called; base = turn_base s t x stay w a.called a.base }
-
-pub get_reply_stays : (g h : Ghosts) (s t : State) (q d r : ℕ) (k : List ℕ) (entry : ℕ) (object : Option Object) → EntriesStay s t → GhostsGrow s g h → TurnsHold g s → GetReplySays g s q d r k entry object → GetReplySays h t q d r k entry object
-get_reply_stays g h s t q d r k entry object stay ghosts turns a = record {
-  turn = a.turn;
-  started = ghosts.turn d r a.turn a.started;
-  genuine = genuine_stays s.objects t.objects stay.versions d k entry a.genuine;
-  reached = le_trans a.reached (stay.versions.ledger.ballot q);
-  given = le_trans (stay.versions.floors q d k a.reached) a.given;
-  stood = rw (stay.stood a.turn.call q (turns d r a.turn a.started).called) a.stood;
-  settled = by_base (turns d r a.turn a.started).base;
-  holds = λ x e. object_stays s t entry x stay (genuine_proposed s d k entry a.genuine) (a.holds x e);
-}
+no_stage : (key : List ℕ) (l : Leader) (stage : Stage) → (stage ≡ stages.Idle → ⊥) → (row_at key l.table.rows).stage ≡ stage → IsCalm l.table → Runs key l
+no_stage key l stage busy e calm = by_call (running key l.table.calls) refl
   where
-    by_base : (a.turn.base ≡ 0) ⊎ ((s.objects.settled a.turn.base ≡ true) × (s.objects.key a.turn.base ≡ (s.book.asked a.turn.call).key)) → t.objects.settled_by a.turn.base q ≡ true → a.turn.base ≤ entry
-    by_base (inl z) b = rw z (omega arith)
-    by_base (inr c) b = a.settled (rw (stay.versions.settled_by a.turn.base c.0) at b)
+    by_call : (call : Option Waiting) → running key l.table.calls ≡ call → IsSome call
+    by_call None none = absurd (busy (sym e ∙ calm key none))
+    by_call (Some w) one = refl
 
-pub check_reply_stays : (g h : Ghosts) (s t : State) (q d r : ℕ) → EntriesStay s t → GhostsGrow s g h → TurnsHold g s → CheckReplySays g s q d r → CheckReplySays h t q d r
-check_reply_stays g h s t q d r stay ghosts turns a = record { turn = a.turn; started = ghosts.turn d r a.turn a.started; stood = rw (stay.stood a.turn.call q (turns d r a.turn a.started).called) a.stood }
+between : (key : List ℕ) (l : Leader) (stage : Stage) → (stage ≡ stages.Idle → ⊥) → (row_at key l.table.rows).stage ≡ stage → IsAtRest l → IsFree key l
+between key l stage busy e rest = (rest.task, no_stage key l stage busy e rest.calm)
 
--- ## What a peer that stands at the epoch and trusts its tree replies
+reading : (round : ℕ) (votes : Round) (best : Option Found) → stages.Reading round votes best ≡ stages.Idle → ⊥
+reading round votes best e = absurd cc
 
-at_most : (a d e : ℕ) → a ≤ e → e ≡ d → a ≤ d
-at_most a d e l p = omega arith
+putting : (o : Object) (digest : List ℕ) (acks : Round) (rewrite : Bool) → stages.Putting o digest acks rewrite ≡ stages.Idle → ⊥
+putting o digest acks rewrite e = absurd cc
 
-pub get_reply : (g : Ghosts) (s : State) (q d r : ℕ) (k : List ℕ) (x : Turn) (object : Option Object) → VersionsAreSafe s.objects → EntriesAreSafe s → Whole s.objects → g.turn d r ≡ Some x → TurnHolds s d x → (s.book.asked x.call).key ≡ k → s.objects.ledger.ballot q ≡ d → s.objects.trusted q ≡ true
-    → ((y : Object) → object ≡ Some y → IsObjectOf s (s.objects.visible q k) y) → GetReplySays g s q d r k (s.objects.visible q k) object
-get_reply g s q d r k x object versions entries w started turn key stands trusted holds = record {
-  turn = x;
-  started = started;
-  genuine = subst (λ e. IsGenuine s.objects e k (s.objects.visible q k)) stands (versions.genuine.shown q k);
-  reached = reached stands;
-  given = subst (λ e. s.objects.floor q e k ≤ s.objects.visible q k) stands (versions.shows q k (inl trusted));
-  stood = at_most (s.book.stood x.call q) d (s.objects.ledger.ballot q) ((entries.calls x.call turn.called).stood q) stands;
-  settled = by_base turn.base;
-  holds = holds;
-}
+-- the stage of a key after one more reply
+abbrev hears : ℕ → ℕ → Round → Option Found → Option Entry → Option Object → Stage
+hears from asked votes best entry object = stages.Reading asked (heard_from from votes) (better best entry object)
+
+heard_step : (key : List ℕ) (l : Leader) (stage : Stage) (from : ℕ) (ballot : Epoch) (round : ℕ) (entry : Option Entry) (object : Option Object) → (row_at key l.table.rows).stage ≡ stage
+    → IsStep key_rules.Read key 9 (IsAtRest l) l (heard stage from ballot round key entry object l)
+heard_step key l (stages.Reading asked votes best) from ballot round entry object e = either (λ (r : Leader × LeadOut). IsStep key_rules.Read key 9 (IsAtRest l) l r) (counts ballot round asked l) _ _
+    (goes key_rules.Read 9 key (IsAtRest l) l (stands key (hears from asked votes best entry object) l) false [] [] None (OnKeys key_rules.EnoughReplies) (key ∷ []) (stands_moves key (hears from asked votes best entry object) l (λ before. tt)) (none_may l.me) refl tt tt (room_at 8 9 (task_turns l.task) (lit< tt))
+    (λ rest. free key_rules.EnoughReplies key (stands key (hears from asked votes best entry object) l) refl rest.task) (inl (λ rest. no_stage key l (stages.Reading asked votes best) (reading asked votes best) e rest.calm)))
+    (idle_step key_rules.Read 9 key (IsAtRest l) l (lit< tt) (λ rest. rest.task))
+heard_step key l stages.Idle from ballot round entry object e = idle_step key_rules.Read 9 key (IsAtRest l) l (lit< tt) (λ rest. rest.task)
+heard_step key l (stages.Checking asked votes reply) from ballot round entry object e = idle_step key_rules.Read 9 key (IsAtRest l) l (lit< tt) (λ rest. rest.task)
+heard_step key l (stages.Putting o digest acks rewrite) from ballot round entry object e = idle_step key_rules.Read 9 key (IsAtRest l) l (lit< tt) (λ rest. rest.task)
+
+pub row_29_reply_step : (from : ℕ) (ballot : Epoch) (round : ℕ) (key : List ℕ) (entry : Option Entry) (object : Option Object) (l : Leader) → IsStep key_rules.Read key 9 (IsAtRest l) l (row_29_reply from ballot round key entry object l)
+row_29_reply_step from ballot round key entry object l = heard_step key l (row_at key l.table.rows).stage from ballot round entry object refl
+
+goes_on_checking_step : (key : List ℕ) (l : Leader) (w : Waiting) (state : RoundState) (round : ℕ) (votes : Round) (reply : Reply) → running key l.table.calls ≡ Some w → IsStep key_rules.Check key 1 (IsFree key l) l (goes_on_checking state round votes reply w key l)
+goes_on_checking_step key l w Open round votes reply e =
+    goes key_rules.Check 1 key (IsFree key l) l (stands key (stages.Checking round votes reply) l) false [] [] None Stay [] (stands_moves key (stages.Checking round votes reply) l (λ before. tt)) (none_may l.me) refl tt tt
+    (room_at 0 1 (task_turns l.task) (lit< tt)) (λ before. before.0) (inl (λ before. before.1))
+goes_on_checking_step key l w Met round votes reply e = read_step key_rules.Check 1 key l w reply [] e (none_may l.me) (lit< tt)
+goes_on_checking_step key l w AllAnswered round votes reply e = read_step key_rules.Check 1 key l w reply [] e (none_may l.me) (lit< tt)
+
+stood_step : (key : List ℕ) (l : Leader) (call : Option Waiting) (stage : Stage) (from : ℕ) (ballot : Epoch) (round : ℕ) → running key l.table.calls ≡ call → IsStep key_rules.Check key 1 (IsAtRest l) l (stood call stage from ballot round key l)
+stood_step key l None stage from ballot round e = idle_step key_rules.Check 1 key (IsAtRest l) l (lit< tt) (λ rest. rest.task)
+stood_step key l (Some w) (stages.Checking asked votes reply) from ballot round e = either (λ (r : Leader × LeadOut). IsStep key_rules.Check key 1 (IsAtRest l) l r) (counts ballot round asked l) _ _
+    (on_ready key_rules.Check 1 key (IsFree key l) (IsAtRest l) l _ (λ rest. (rest.task, runs key l.table.calls w e)) (goes_on_checking_step key l w (state_of (heard_from from votes)) asked (heard_from from votes) reply e))
+    (idle_step key_rules.Check 1 key (IsAtRest l) l (lit< tt) (λ rest. rest.task))
+stood_step key l (Some w) stages.Idle from ballot round e = idle_step key_rules.Check 1 key (IsAtRest l) l (lit< tt) (λ rest. rest.task)
+stood_step key l (Some w) (stages.Reading asked votes best) from ballot round e = idle_step key_rules.Check 1 key (IsAtRest l) l (lit< tt) (λ rest. rest.task)
+stood_step key l (Some w) (stages.Putting o digest acks rewrite) from ballot round e = idle_step key_rules.Check 1 key (IsAtRest l) l (lit< tt) (λ rest. rest.task)
+
+-- a reply to a check is about the key that checks in that round, or nothing happens
+pub row_33_reply_step : (from : ℕ) (ballot : Epoch) (round : ℕ) (l : Leader) → (key : List ℕ) × IsStep key_rules.Check key 1 (IsAtRest l) l (row_33_reply from ballot round l)
+row_33_reply_step from ballot round l = by_key (check_at round l.table.checks)
   where
-    reached : s.objects.ledger.ballot q ≡ d → d ≤ s.objects.ledger.ballot q
-    reached e = omega arith
+    by_key : (found : Option (List ℕ)) → (key : List ℕ) × IsStep key_rules.Check key 1 (IsAtRest l) l (stood_at found from ballot round l)
+    by_key None = ([], idle_step key_rules.Check 1 [] (IsAtRest l) l (lit< tt) (λ rest. rest.task))
+    by_key (Some key) = (key, stood_step key l (running key l.table.calls) (row_at key l.table.rows).stage from ballot round refl)
 
-    kept : s.objects.settled x.base ≡ true → (x.base ≤ s.objects.map q (s.objects.key x.base)) ⊎ IsDead s.objects x.base → x.base ≤ s.objects.map q (s.objects.key x.base)
-    kept b (inl l) = l
-    kept b (inr dead) = absurd (settled_alive s.objects x.base w.settled b dead)
+acknowledged_by_step : (key : List ℕ) (l : Leader) (stage : Stage) (from : ℕ) (ballot : Epoch) (version : Version) → (row_at key l.table.rows).stage ≡ stage → IsStep key_rules.Put key 5 (IsAtRest l) l (acknowledged_by stage from ballot version key l)
+acknowledged_by_step key l (stages.Putting o digest acks rewrite) from ballot version e = either (λ (r : Leader × LeadOut). IsStep key_rules.Put key 5 (IsAtRest l) l r) (is_same ballot l.fact.epoch && same_version version o.version) _ _
+    (on_ready key_rules.Put 5 key (IsFree key l) (IsAtRest l) l _ (between key l (stages.Putting o digest acks rewrite) (putting o digest acks rewrite) e)
+    (acknowledged_step 5 key l (state_of (heard_from from acks)) o digest (heard_from from acks) rewrite [] (λ before. answered_on acks from ∙ subst (CountsIn l.fact.views) e (before key)) (none_may l.me) (λ held. lit< tt) (lit< tt)))
+    (idle_step key_rules.Put 5 key (IsAtRest l) l (lit< tt) (λ rest. rest.task))
+acknowledged_by_step key l stages.Idle from ballot version e = idle_step key_rules.Put 5 key (IsAtRest l) l (lit< tt) (λ rest. rest.task)
+acknowledged_by_step key l (stages.Reading asked votes best) from ballot version e = idle_step key_rules.Put 5 key (IsAtRest l) l (lit< tt) (λ rest. rest.task)
+acknowledged_by_step key l (stages.Checking asked votes reply) from ballot version e = idle_step key_rules.Put 5 key (IsAtRest l) l (lit< tt) (λ rest. rest.task)
 
-    by_base : (x.base ≡ 0) ⊎ ((s.objects.settled x.base ≡ true) × (s.objects.key x.base ≡ (s.book.asked x.call).key)) → s.objects.settled_by x.base q ≡ true → x.base ≤ s.objects.visible q k
-    by_base (inl z) b = rw z (omega arith)
-    by_base (inr c) b = rw (versions.sight.trusted q trusted k) (subst (λ j. x.base ≤ s.objects.map q j) (c.1 ∙ key) (kept c.0 (versions.kept.acked q x.base (w.settled.acked x.base q c.0 b))))
+pub row_35_reply_step : (from : ℕ) (ballot : Epoch) (key : List ℕ) (version : Version) (l : Leader) → IsStep key_rules.Put key 5 (IsAtRest l) l (row_35_reply from ballot key version l)
+row_35_reply_step from ballot key version l = acknowledged_by_step key l (row_at key l.table.rows).stage from ballot version refl
 
-pub check_reply : (g : Ghosts) (s : State) (q d r : ℕ) (x : Turn) → EntriesAreSafe s → g.turn d r ≡ Some x → TurnHolds s d x → s.objects.ledger.ballot q ≡ d → CheckReplySays g s q d r
-check_reply g s q d r x entries started turn stands = record { turn = x; started = started; stood = at_most (s.book.stood x.call q) d (s.objects.ledger.ballot q) ((entries.calls x.call turn.called).stood q) stands }
+-- ## Proposals
 
--- ## Questions and objects
+proposes_for : (key : List ℕ) (l m : Leader) (task : Pending) → Fits key_rules.Put key l task → ProposesAt l (put_for task seens.Nothing key m).1.notes
+proposes_for key l m (tasks.Propose o parent call) fits = fits.3
+proposes_for key l m tasks.Nothing fits = tt
+proposes_for key l m (tasks.Write content parent) fits = tt
+proposes_for key l m (tasks.Rewrite o) fits = tt
+proposes_for key l m (tasks.Check reply) fits = tt
+proposes_for key l m (tasks.Apply current) fits = tt
 
-pub get_stays : (g h : Ghosts) (s t : State) (d r : ℕ) (k : List ℕ) → EntriesStay s t → GhostsGrow s g h → TurnsHold g s → GetSays g s d r k → GetSays h t d r k
-get_stays g h s t d r k stay ghosts turns a = record { turn = a.turn; started = ghosts.turn d r a.turn a.started; on_key = ap (λ (c : Call). c.key) (stay.asked a.turn.call (turns d r a.turn a.started).called) ∙ a.on_key }
-
-pub check_stays : (g h : Ghosts) (s : State) (d r : ℕ) → GhostsGrow s g h → CheckSays g d r → CheckSays h d r
-check_stays g h s d r ghosts a = record { turn = a.turn; started = ghosts.turn d r a.turn a.started }
-
-pub put_says_stays : (s t : State) (d : ℕ) (k : List ℕ) (v : ℕ) (x : Object) → EntriesStay s t → PutSays s d k v x → PutSays t d k v x
-put_says_stays s t d k v x stay a = record {
-  proposed = stay.versions.proposed v a.proposed;
-  key = stay.versions.key v a.proposed ∙ a.key;
-  epoch = a.epoch;
-  object = record { some = a.object.some; stamp = a.object.stamp ∙ sym (stay.stamp v a.proposed); content = a.object.content ∙ sym (stay.content v a.proposed) };
-}
-
--- the peer's entry is the version: it acknowledges it
-pub put_is_there : (s : State) (q d : ℕ) (k : List ℕ) (v : ℕ) (x : Object) → VersionsAreSafe s.objects → s.objects.ledger.ballot q ≡ d → s.objects.trusted q ≡ true → s.objects.ledger.accepted d q ≡ true → PutSays s d k v x → s.objects.visible q k ≡ v → MayCome s (Acknowledge q v)
-put_is_there s q d k v x versions stands trusted accepted a e = (record { proposed = a.proposed; stands = stands ∙ sym a.epoch; accepted = rw a.epoch accepted; has = rw a.key (same (s.objects.map q k) (sym (versions.sight.trusted q trusted k) ∙ e)) }, tt)
-  where
-    same : (m : ℕ) → m ≡ v → v ≤ m
-    same m f = omega arith
-
--- the peer's entry is lower: the version goes into its tree, and it acknowledges it
-pub put_goes_in : (s : State) (q d : ℕ) (k : List ℕ) (v : ℕ) (x : Object) → VersionsAreSafe s.objects → s.objects.ledger.ballot q ≡ d → s.objects.trusted q ≡ true → s.objects.ledger.accepted d q ≡ true → PutSays s d k v x → s.objects.visible q k ≤ v → MayAll s (Write q v ∷ Acknowledge q v ∷ [])
-put_goes_in s q d k v x versions stands trusted accepted a l = ((record { honest = versions.sight.trusted q trusted; proposed = a.proposed; low = low a.epoch stands; higher = rw a.key (subst (λ m. m ≤ v) (versions.sight.trusted q trusted k) l) }, tt), ((record { proposed = a.proposed; stands = stands ∙ sym a.epoch; accepted = rw a.epoch accepted; has = has }, tt), tt))
-  where
-    low : epoch_of v ≡ d → s.objects.ledger.ballot q ≡ d → epoch_of v ≤ s.objects.ledger.ballot q
-    low e f = omega arith
-
-    entry_here : (m : List ℕ → ℕ) (j : List ℕ) → v ≤ set_entry m j v j
-    entry_here m j = rw (eq_same_bytes j j refl) (omega arith)
-
-    has : v ≤ put s.objects.map q (set_entry (s.objects.map q) (s.objects.key v) v) q (s.objects.key v)
-    has = rw (put_here s.objects.map q (set_entry (s.objects.map q) (s.objects.key v) v)) (entry_here (s.objects.map q) (s.objects.key v))
+-- rule 35 proposes the version of the last number
+pub proposes_35 : (key : List ℕ) (l : Leader) → IsReady key_rules.Put key l → ProposesAt l (row_35 key seens.Nothing l).1.notes
+proposes_35 key l ready = proposes_for key l (with_task tasks.Nothing l) l.task ready

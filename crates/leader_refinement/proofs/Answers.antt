@@ -9,14 +9,14 @@ use Rattle.register_model.specs.declared.register.Register.{Register}
 use Rattle.phase_rows.specs.declared.phase.Then.TheVariants.{Stay}
 use Rattle.phase_rows.specs.declared.rules.KeyRule.TheVariants as key_rules
 use Rattle.ens_base.specs.declared.epoch.Version.{Version}
-use Rattle.ens_object.specs.declared.object.Object.{Object}
-use Rattle.key_commands.specs.Commands.{verdict_of}
+use Rattle.stored_formats.specs.declared.object.Object.{Object}
+use Rattle.object_commands.specs.Commands.{verdict_of}
 use Rattle.register_model.specs.Registers.{Outcome, Keeps, Writes, outcome}
 use Rattle.register_model.specs.declared.note.Note.{Note as Told}
 use Rattle.register_model.specs.declared.note.Note.TheVariants.{Read}
-use Rattle.abstract_protocol.specs.Book.{Book, register_at, version_or_none}
-use Rattle.abstract_protocol.specs.Numbers.{epoch_number}
-use Rattle.abstract_protocol.specs.Protocol.{State, Step, Note, IsRun, state_after, after}
+use Rattle.protocol_laws.specs.Book.{Book, register_at, version_or_none}
+use Rattle.protocol_laws.specs.Numbers.{epoch_number}
+use Rattle.protocol_laws.specs.Protocol.{State, Step, Note, IsRun, state_after, after}
 use Rattle.call_table.specs.Calls.{running, without_running}
 use Rattle.call_table.specs.Rows.{row_at, base_of}
 use Rattle.call_table.specs.Tables.{ended, rested}
@@ -24,21 +24,21 @@ use Rattle.call_table.specs.declared.row.KeyRow.{KeyRow}
 use Rattle.call_table.specs.declared.row.Stage.TheVariants as stages
 use Rattle.call_table.specs.declared.table.CallTable.{CallTable}
 use Rattle.call_table.specs.declared.waiting.Waiting.{Waiting}
-use Rattle.leader_words.specs.declared.out.Outgoing.{Outgoing}
-use Rattle.leading.specs.Leaders.{base, answered, concluded, with_task}
-use Rattle.leading.specs.Rounds.{register_at as object_register, applied_for}
-use Rattle.leading.specs.declared.leader.Leader.{Leader}
-use Rattle.leading_laws.proofs.Moves.{free as ready_free}
-use Rattle.leading.specs.declared.pending.Pending.{Pending}
-use Rattle.leading.specs.declared.pending.Pending.TheVariants as tasks
-use Rattle.leader_laws.proofs.Acts.{sure_began}
-use Rattle.leader_laws.proofs.Guards.{settled_parent}
-use Rattle.leader_laws.proofs.Runs.{run_leaders, run_tables}
-use Rattle.leader_laws.specs.Laws.{LeadersMove, TablesStay}
-use Rattle.leader_laws.specs.Leaders.{RowHolds, TurnsHold, IsParent}
-use Rattle.leader_laws.specs.Moves.{IsLeaderMove}
-use Rattle.leader_laws.specs.Tables as theory
-use Rattle.leader_laws.specs.Tables.{Ghosts, Owed, Seat}
+use Rattle.leader_output.specs.declared.out.Outgoing.{Outgoing}
+use Rattle.leader.specs.Leaders.{base, answered, concluded, with_task}
+use Rattle.leader.specs.Rounds.{register_at as object_register, applied_for}
+use Rattle.leader.specs.declared.leader.Leader.{Leader}
+use Rattle.leader_laws.proofs.Moves.{free as ready_free}
+use Rattle.leader.specs.declared.pending.Pending.{Pending}
+use Rattle.leader.specs.declared.pending.Pending.TheVariants as tasks
+use Rattle.role_laws.proofs.Acts.{sure_began}
+use Rattle.role_laws.proofs.Guards.{settled_parent}
+use Rattle.role_laws.proofs.Runs.{run_leaders, run_tables}
+use Rattle.role_laws.specs.LeaderLaws.{LeadersMove, TablesStay}
+use Rattle.role_laws.specs.Leaders.{RowHolds, TurnsHold, IsParent}
+use Rattle.role_laws.specs.Moves.{IsLeaderMove}
+use Rattle.role_laws.specs.Tables as theory
+use Rattle.role_laws.specs.Tables.{Ghosts, Owed, Seat}
 use Rattle.leader_refinement.proofs.Base.{AreElsewhere, row_of_work, finish, same_elsewhere, ended_elsewhere, stage_row, calls_split, left_behind, begins, agree_running, agree_without, ended_fits, calm_ended, set_off, set_here, tasked_so}
 use Rattle.leader_refinement.proofs.Numbers.{option_back, base_rank, base_fits}
 use Rattle.leader_refinement.specs.Seen.{ids_on, known_of, waiting_behind, row_parts, row_seen, table_of}

@@ -7,18 +7,18 @@ use Rattle.std.proofs.lemmas.List.Elements.{All-nil}
 use Rattle.std.proofs.Math.Numerals.{suc-eq-add-one}
 use Rattle.ens_base.specs.declared.entry.Entry.{Entry}
 use Rattle.ens_base.specs.declared.epoch.Epoch.{Epoch}
-use Rattle.ens_object.specs.declared.object.Object.{Object}
+use Rattle.stored_formats.specs.declared.object.Object.{Object}
 use Rattle.phase_rows.specs.Orders.{is_same}
-use Rattle.quorum_round.specs.Rounds.{begun, answered as heard_from}
-use Rattle.quorum_round.specs.declared.round.Round.{Round}
+use Rattle.quorums.specs.Rounds.{begun, answered as heard_from}
+use Rattle.quorums.specs.declared.round.Round.{Round}
 use Rattle.wire_frames.specs.declared.message.Message.TheVariants.{Get}
 use Rattle.phase_rows.specs.declared.phase.Seen.{Seen}
 use Rattle.phase_rows.specs.declared.phase.Seen.TheVariants as seens
 use Rattle.phase_rows.specs.declared.rules.KeyRule.TheVariants as key_rules
 use Rattle.phase_rows.proofs.Epochs.{same_epochs}
-use Rattle.abstract_protocol.specs.Ledger.{put}
-use Rattle.abstract_protocol.specs.Numbers.{epoch_number}
-use Rattle.abstract_protocol.specs.Protocol.{State, Step, IsRun, state_after}
+use Rattle.protocol_laws.specs.Ledger.{put}
+use Rattle.protocol_laws.specs.Numbers.{epoch_number}
+use Rattle.protocol_laws.specs.Protocol.{State, Step, IsRun, state_after}
 use Rattle.call_table.specs.Best.{better}
 use Rattle.call_table.specs.Calls.{running}
 use Rattle.call_table.specs.Rows.{row_at, with_stage}
@@ -28,28 +28,28 @@ use Rattle.call_table.specs.declared.row.Stage.{Stage}
 use Rattle.call_table.specs.declared.row.Stage.TheVariants as stages
 use Rattle.call_table.specs.declared.table.CallTable.{CallTable}
 use Rattle.call_table.specs.declared.waiting.Waiting.{Waiting}
-use Rattle.leader_words.specs.Outs.{rests, leaves, leads_on, and_own}
-use Rattle.leader_words.specs.Sends.{is_other, sent_up_to}
-use Rattle.leader_words.specs.declared.out.Outgoing.{Outgoing}
-use Rattle.leader_words.specs.declared.out.Own.TheVariants.{Look}
-use Rattle.leading.specs.Leaders.{stands, is_spent}
-use Rattle.leading.specs.Rounds.{counts, asked, asked_for, heard}
-use Rattle.leading.specs.declared.leader.Leader.{Leader}
-use Rattle.leading_laws.proofs.Moves.{free as ready_free}
-use Rattle.leading.specs.declared.pending.Pending.{Pending}
-use Rattle.leading.specs.declared.pending.Pending.TheVariants as tasks
-use Rattle.leader_laws.proofs.Moves.{reply_counts}
-use Rattle.leader_laws.proofs.Rounds.{turn_here}
-use Rattle.leader_laws.proofs.Runs.{run_leaders, run_peers}
-use Rattle.leader_laws.specs.Laws.{LeadersMove, PeersReply}
-use Rattle.leader_laws.specs.Leaders.{RowHolds, TurnsHold, IsObjectOf}
-use Rattle.leader_laws.specs.Messages.{GetSays, GetReplySays}
-use Rattle.leader_laws.specs.Moves.{IsLeaderMove}
-use Rattle.leader_laws.specs.Tables as theory
-use Rattle.leader_laws.specs.Tables.{Ghosts, Owed, Seat}
+use Rattle.leader_output.specs.Outs.{rests, leaves, leads_on, and_own}
+use Rattle.leader_output.specs.Sends.{is_other, sent_up_to}
+use Rattle.leader_output.specs.declared.out.Outgoing.{Outgoing}
+use Rattle.leader_output.specs.declared.out.Own.TheVariants.{Look}
+use Rattle.leader.specs.Leaders.{stands, is_spent}
+use Rattle.leader.specs.Rounds.{counts, asked, asked_for, heard}
+use Rattle.leader.specs.declared.leader.Leader.{Leader}
+use Rattle.leader_laws.proofs.Moves.{free as ready_free}
+use Rattle.leader.specs.declared.pending.Pending.{Pending}
+use Rattle.leader.specs.declared.pending.Pending.TheVariants as tasks
+use Rattle.role_laws.proofs.LeaderMoves.{reply_counts}
+use Rattle.role_laws.proofs.Rounds.{turn_here}
+use Rattle.role_laws.proofs.Runs.{run_leaders, run_peers}
+use Rattle.role_laws.specs.LeaderLaws.{LeadersMove, PeersReply}
+use Rattle.role_laws.specs.Leaders.{RowHolds, TurnsHold, IsObjectOf}
+use Rattle.role_laws.specs.LeaderMessages.{GetSays, GetReplySays}
+use Rattle.role_laws.specs.Moves.{IsLeaderMove}
+use Rattle.role_laws.specs.Tables as theory
+use Rattle.role_laws.specs.Tables.{Ghosts, Owed, Seat}
 use Rattle.leader_refinement.proofs.Base.{AreElsewhere, finish, no_move, rests_so, stands_elsewhere, stage_row, staged_fits, calm_staged, set_here, off_same, row_told}
 use Rattle.leader_refinement.proofs.Orders.{IsBetter, better_seen, better_fits, better_names}
-use Rattle.leading_laws.proofs.Votes.{answered_on, begun_on}
+use Rattle.leader_laws.proofs.Votes.{answered_on, begun_on}
 use Rattle.leader_refinement.proofs.Votes.{answered_fewer, begun_fewer, sent_say}
 use Rattle.leader_refinement.specs.Seen.{known_of, voters, best_rank, best_object, entry_rank, shown, waiting_behind, row_parts, row_seen, table_of}
 use Rattle.leader_refinement.specs.Follows.{StageFits, FoundFits, FoundNames, IsOn, TaskHolds, IsAtWork, LeaderFits, Follows, GoesOn, SentSays}

@@ -5,9 +5,9 @@ use Rattle.std.proofs.lemmas.List.{append-nil}
 use Rattle.std.proofs.lemmas.List.Elements.{All-nil}
 use Rattle.ens_base.specs.Lists.{same_bytes}
 use Rattle.ens_base.proofs.Lists.{bytes_same, bytes_itself}
-use Rattle.abstract_protocol.specs.Book.{Book}
-use Rattle.abstract_protocol.specs.Numbers.{epoch_number}
-use Rattle.abstract_protocol.specs.Protocol.{State, Step, after}
+use Rattle.protocol_laws.specs.Book.{Book}
+use Rattle.protocol_laws.specs.Numbers.{epoch_number}
+use Rattle.protocol_laws.specs.Protocol.{State, Step, after}
 use Rattle.call_table.specs.Calls.{running, without_running}
 use Rattle.call_table.specs.Rows.{Rows, row_at, with_stage, with_known}
 use Rattle.call_table.specs.Tables.{ended, rested}
@@ -17,27 +17,27 @@ use Rattle.call_table.specs.declared.row.Stage.{Stage}
 use Rattle.call_table.specs.declared.row.Stage.TheVariants as stages
 use Rattle.call_table.specs.declared.table.CallTable.{CallTable}
 use Rattle.call_table.specs.declared.waiting.Waiting.{Waiting}
-use Rattle.leading_laws.proofs.Lookups.{row_here, stage_other, known_other, running_other}
-use Rattle.leading.specs.declared.leader.Leader.{Leader}
-use Rattle.leading.specs.declared.pending.Pending.{Pending}
-use Rattle.leading.specs.declared.pending.Pending.TheVariants as tasks
-use Rattle.leader_words.specs.Outs.{rests, leads_on}
-use Rattle.leading.specs.Leaders.{with_task}
-use Rattle.leading_laws.specs.Steps.{Fits, IsCalm}
+use Rattle.leader_laws.proofs.Lookups.{row_here, stage_other, known_other, running_other}
+use Rattle.leader.specs.declared.leader.Leader.{Leader}
+use Rattle.leader.specs.declared.pending.Pending.{Pending}
+use Rattle.leader.specs.declared.pending.Pending.TheVariants as tasks
+use Rattle.leader_output.specs.Outs.{rests, leads_on}
+use Rattle.leader.specs.Leaders.{with_task}
+use Rattle.leader_laws.specs.Steps.{Fits, IsCalm}
 use Rattle.phase_rows.specs.declared.phase.Then.TheVariants.{OnKeys}
 use Rattle.phase_rows.specs.declared.rules.KeyRule.{KeyRule}
-use Rattle.leader_words.specs.declared.out.AnswerOut.{AnswerOut}
-use Rattle.leader_words.specs.declared.out.LeadOut.{LeadOut}
-use Rattle.leader_words.specs.declared.out.Outgoing.{Outgoing}
+use Rattle.leader_output.specs.declared.out.AnswerOut.{AnswerOut}
+use Rattle.leader_output.specs.declared.out.LeadOut.{LeadOut}
+use Rattle.leader_output.specs.declared.out.Outgoing.{Outgoing}
 use Rattle.register_model.specs.declared.note.Note.{Note}
-use Rattle.leader_laws.proofs.Moves.{row_set, next_begins}
-use Rattle.leader_laws.proofs.Rounds.{move_same}
-use Rattle.leader_laws.proofs.Tables.{leader_same}
-use Rattle.leader_laws.specs.Leaders.{RowHolds, LeaderHolds}
-use Rattle.leader_laws.specs.Moves.{IsLeaderMove}
-use Rattle.leader_laws.specs.Tables as theory
-use Rattle.leader_laws.specs.Tables.{Ghosts, Owed, Seat}
-use Rattle.leading_laws.proofs.Moves.{runs as runs_now}
+use Rattle.role_laws.proofs.LeaderMoves.{row_set, next_begins}
+use Rattle.role_laws.proofs.Rounds.{move_same}
+use Rattle.role_laws.proofs.Tables.{leader_same}
+use Rattle.role_laws.specs.Leaders.{RowHolds, LeaderHolds}
+use Rattle.role_laws.specs.Moves.{IsLeaderMove}
+use Rattle.role_laws.specs.Tables as theory
+use Rattle.role_laws.specs.Tables.{Ghosts, Owed, Seat}
+use Rattle.leader_laws.proofs.Moves.{runs as runs_now}
 use Rattle.leader_refinement.specs.Seen.{ids_on, waiting_behind, row_parts, row_seen, task_on, table_of, owed_after, known_of}
 use Rattle.leader_refinement.specs.Follows.{IsAtWork, CallsAgree, TaskHolds, IsReadyFor, NextFits, Follows, SentSays, Hash, RowFits, StageFits}
 

@@ -9,20 +9,20 @@ use Rattle.ens_base.specs.declared.command.Command.{Command}
 use Rattle.ens_base.specs.declared.epoch.Epoch.{Epoch}
 use Rattle.ens_base.specs.declared.reply.Reply.{Reply}
 use Rattle.phase_rows.specs.Orders.{is_same}
-use Rattle.joint_views.specs.Quorums.{is_quorum}
-use Rattle.quorum_round.specs.Rounds.{begun, answered as heard_from, state_of}
-use Rattle.quorum_round.specs.declared.round.Round.{Round}
-use Rattle.quorum_round.specs.declared.round.RoundState.{RoundState}
-use Rattle.quorum_round.specs.declared.round.RoundState.TheVariants.{Open, Met, AllAnswered}
+use Rattle.quorums.specs.Quorums.{is_quorum}
+use Rattle.quorums.specs.Rounds.{begun, answered as heard_from, state_of}
+use Rattle.quorums.specs.declared.round.Round.{Round}
+use Rattle.quorums.specs.declared.round.RoundState.{RoundState}
+use Rattle.quorums.specs.declared.round.RoundState.TheVariants.{Open, Met, AllAnswered}
 use Rattle.register_model.specs.Registers.{outcome}
 use Rattle.register_model.specs.declared.note.Note.TheVariants.{Read}
 use Rattle.wire_frames.specs.declared.message.Message.TheVariants.{Check}
 use Rattle.phase_rows.specs.declared.phase.Then.TheVariants.{Stay}
 use Rattle.phase_rows.proofs.Epochs.{same_epochs}
-use Rattle.abstract_protocol.specs.Ledger.{put}
-use Rattle.abstract_protocol.specs.Book.{register_at}
-use Rattle.abstract_protocol.specs.Numbers.{epoch_number}
-use Rattle.abstract_protocol.specs.Protocol.{State, Step, Note, IsRun, state_after, after}
+use Rattle.protocol_laws.specs.Ledger.{put}
+use Rattle.protocol_laws.specs.Book.{register_at}
+use Rattle.protocol_laws.specs.Numbers.{epoch_number}
+use Rattle.protocol_laws.specs.Protocol.{State, Step, Note, IsRun, state_after, after}
 use Rattle.call_table.specs.Calls.{running}
 use Rattle.call_table.specs.Rows.{Checks, row_at, with_stage, with_check}
 use Rattle.call_table.specs.declared.row.KeyRow.{KeyRow}
@@ -30,26 +30,26 @@ use Rattle.call_table.specs.declared.row.Stage.{Stage}
 use Rattle.call_table.specs.declared.row.Stage.TheVariants as stages
 use Rattle.call_table.specs.declared.table.CallTable.{CallTable}
 use Rattle.call_table.specs.declared.waiting.Waiting.{Waiting}
-use Rattle.leader_words.specs.Outs.{rests, leaves}
-use Rattle.leader_words.specs.Sends.{is_other, sent_up_to, tells_all}
-use Rattle.leader_words.specs.declared.out.Outgoing.{Outgoing}
-use Rattle.leading.specs.Leaders.{base, read_answered, with_task, stands, is_spent}
-use Rattle.leading.specs.Rounds.{counts, begins_check, check_now, checked_for, goes_on_checking, stood, stood_at}
-use Rattle.leading.specs.declared.leader.Leader.{Leader}
-use Rattle.leading.specs.declared.pending.Pending.{Pending}
-use Rattle.leading.specs.declared.pending.Pending.TheVariants as tasks
-use Rattle.leader_laws.proofs.Moves.{check_counts}
-use Rattle.leader_laws.proofs.Rounds.{turn_here}
-use Rattle.leader_laws.proofs.Runs.{run_leaders, run_tables, run_peers}
-use Rattle.leader_laws.specs.Laws.{LeadersMove, TablesStay, PeersReply}
-use Rattle.leader_laws.specs.Leaders.{RowHolds, TurnsHold}
-use Rattle.leader_laws.specs.Messages.{CheckSays, CheckReplySays}
-use Rattle.leader_laws.specs.Moves.{IsLeaderMove}
-use Rattle.leader_laws.specs.Tables as theory
-use Rattle.leader_laws.specs.Tables.{Ghosts, Owed, Seat}
+use Rattle.leader_output.specs.Outs.{rests, leaves}
+use Rattle.leader_output.specs.Sends.{is_other, sent_up_to, tells_all}
+use Rattle.leader_output.specs.declared.out.Outgoing.{Outgoing}
+use Rattle.leader.specs.Leaders.{base, read_answered, with_task, stands, is_spent}
+use Rattle.leader.specs.Rounds.{counts, begins_check, check_now, checked_for, goes_on_checking, stood, stood_at}
+use Rattle.leader.specs.declared.leader.Leader.{Leader}
+use Rattle.leader.specs.declared.pending.Pending.{Pending}
+use Rattle.leader.specs.declared.pending.Pending.TheVariants as tasks
+use Rattle.role_laws.proofs.LeaderMoves.{check_counts}
+use Rattle.role_laws.proofs.Rounds.{turn_here}
+use Rattle.role_laws.proofs.Runs.{run_leaders, run_tables, run_peers}
+use Rattle.role_laws.specs.LeaderLaws.{LeadersMove, TablesStay, PeersReply}
+use Rattle.role_laws.specs.Leaders.{RowHolds, TurnsHold}
+use Rattle.role_laws.specs.LeaderMessages.{CheckSays, CheckReplySays}
+use Rattle.role_laws.specs.Moves.{IsLeaderMove}
+use Rattle.role_laws.specs.Tables as theory
+use Rattle.role_laws.specs.Tables.{Ghosts, Owed, Seat}
 use Rattle.leader_refinement.proofs.Answers.{answered_so, seat_owing, noted_base}
 use Rattle.leader_refinement.proofs.Base.{AreElsewhere, finish, with_row_too, no_move, rests_so, stands_elsewhere, stage_row, agree_running, staged_fits, calm_staged, set_here, off_same, row_told}
-use Rattle.leading_laws.proofs.Votes.{answered_on, begun_on}
+use Rattle.leader_laws.proofs.Votes.{answered_on, begun_on}
 use Rattle.leader_refinement.proofs.Votes.{answered_fewer, begun_fewer, IsClosed, closed_quorum, sent_say}
 use Rattle.leader_refinement.specs.Seen.{known_of, voters, waiting_behind, row_parts, row_seen, table_of}
 use Rattle.leader_refinement.specs.Follows.{settled_rank, StageFits, IsOn, CheckHolds, TaskHolds, IsAtWork, LeaderFits, Follows, GoesOn, SentSays}

@@ -7,24 +7,24 @@ use Rattle.ens_base.specs.declared.command.Command.{Command}
 use Rattle.ens_base.specs.declared.command.Command.TheVariants.{Get, PutOnce, Update, Append, Add, Swap, Over, Delete}
 use Rattle.ens_base.specs.declared.epoch.Version.{Version}
 use Rattle.ens_base.specs.declared.reply.Reply.TheVariants as replies
-use Rattle.ens_object.specs.declared.object.Object.{Object}
-use Rattle.key_commands.specs.Commands.{blind_verdict}
-use Rattle.key_commands.specs.declared.verdict.Verdict.{Verdict}
-use Rattle.key_commands.specs.declared.verdict.Verdict.TheVariants.{Write}
+use Rattle.stored_formats.specs.declared.object.Object.{Object}
+use Rattle.object_commands.specs.Commands.{blind_verdict}
+use Rattle.object_commands.specs.declared.verdict.Verdict.{Verdict}
+use Rattle.object_commands.specs.declared.verdict.Verdict.TheVariants.{Write}
 use Rattle.phase_rows.specs.Orders.{is_same}
 use Rattle.phase_rows.specs.declared.rules.KeyRule.TheVariants as key_rules
 use Rattle.phase_rows.proofs.Epochs.{same_epochs}
-use Rattle.joint_views.specs.Quorums.{is_quorum}
-use Rattle.quorum_round.specs.Rounds.{state_of}
-use Rattle.quorum_round.specs.declared.round.Round.{Round}
-use Rattle.quorum_round.specs.declared.round.RoundState.{RoundState}
-use Rattle.quorum_round.specs.declared.round.RoundState.TheVariants.{Open, Met, AllAnswered}
+use Rattle.quorums.specs.Quorums.{is_quorum}
+use Rattle.quorums.specs.Rounds.{state_of}
+use Rattle.quorums.specs.declared.round.Round.{Round}
+use Rattle.quorums.specs.declared.round.RoundState.{RoundState}
+use Rattle.quorums.specs.declared.round.RoundState.TheVariants.{Open, Met, AllAnswered}
 use Rattle.register_model.specs.Registers.{outcome, Writes}
 use Rattle.register_model.specs.declared.register.Register.{Register}
-use Rattle.abstract_protocol.specs.Objects.{epoch_of}
-use Rattle.abstract_protocol.specs.Book.{register_at, version_of}
-use Rattle.abstract_protocol.specs.Numbers.{epoch_number, IsVersion}
-use Rattle.abstract_protocol.specs.Protocol.{State, Step, IsRun, state_after}
+use Rattle.protocol_laws.specs.Objects.{epoch_of}
+use Rattle.protocol_laws.specs.Book.{register_at, version_of}
+use Rattle.protocol_laws.specs.Numbers.{epoch_number, IsVersion}
+use Rattle.protocol_laws.specs.Protocol.{State, Step, IsRun, state_after}
 use Rattle.call_table.specs.Calls.{running}
 use Rattle.call_table.specs.Rows.{row_at, with_known}
 use Rattle.call_table.specs.declared.row.Found.{Found}
@@ -35,22 +35,22 @@ use Rattle.call_table.specs.declared.row.Stage.{Stage}
 use Rattle.call_table.specs.declared.row.Stage.TheVariants as stages
 use Rattle.call_table.specs.declared.table.CallTable.{CallTable}
 use Rattle.call_table.specs.declared.waiting.Waiting.{Waiting}
-use Rattle.leader_words.specs.Outs.{leads_on}
-use Rattle.leading_laws.proofs.Lookups.{known_other}
-use Rattle.leading.specs.Leaders.{with_task, knows, settled_as, decided}
-use Rattle.leading.specs.Rounds.{register_at as object_register, without_object, on_found, on_greatest, on_best, by_state, gathered, gathered_for}
-use Rattle.leading.specs.declared.leader.Leader.{Leader}
-use Rattle.leading.specs.declared.pending.Pending.TheVariants as tasks
-use Rattle.leader_laws.proofs.Acts.{reading_began}
-use Rattle.leader_laws.proofs.Guards.{version_epoch, fresh_of_replies}
-use Rattle.leader_laws.proofs.Outcomes.{object_register as register_of_object}
-use Rattle.leader_laws.proofs.Runs.{run_leaders, run_keys, run_rows}
-use Rattle.leader_laws.specs.Laws.{LeadersMove, KeyLaws, RowMoves}
-use Rattle.leader_laws.specs.Leaders.{RowHolds, IsObjectOf, IsParent}
-use Rattle.leader_laws.specs.Tables as theory
-use Rattle.leader_laws.specs.Tables.{Ghosts, Owed, Seat}
+use Rattle.leader_output.specs.Outs.{leads_on}
+use Rattle.leader_laws.proofs.Lookups.{known_other}
+use Rattle.leader.specs.Leaders.{with_task, knows, settled_as, decided}
+use Rattle.leader.specs.Rounds.{register_at as object_register, without_object, on_found, on_greatest, on_best, by_state, gathered, gathered_for}
+use Rattle.leader.specs.declared.leader.Leader.{Leader}
+use Rattle.leader.specs.declared.pending.Pending.TheVariants as tasks
+use Rattle.role_laws.proofs.Acts.{reading_began}
+use Rattle.role_laws.proofs.Guards.{version_epoch, fresh_of_replies}
+use Rattle.role_laws.proofs.Outcomes.{object_register as register_of_object}
+use Rattle.role_laws.proofs.Runs.{run_leaders, run_keys, run_rows}
+use Rattle.role_laws.specs.LeaderLaws.{LeadersMove, KeyLaws, RowMoves}
+use Rattle.role_laws.specs.Leaders.{RowHolds, IsObjectOf, IsParent}
+use Rattle.role_laws.specs.Tables as theory
+use Rattle.role_laws.specs.Tables.{Ghosts, Owed, Seat}
 use Rattle.leader_refinement.proofs.Answers.{answered_so, seat_owing}
-use Rattle.leading_laws.proofs.Moves.{runs as runs_now}
+use Rattle.leader_laws.proofs.Moves.{runs as runs_now}
 use Rattle.leader_refinement.proofs.Base.{finish, no_move, rests_so, tasked_so, knows_elsewhere, known_row, rows_fit, calm_known, set_here, set_off, same_elsewhere, off_same, row_told}
 use Rattle.leader_refinement.proofs.Numbers.{rank_back}
 use Rattle.leader_refinement.proofs.Puts.{gone_same}

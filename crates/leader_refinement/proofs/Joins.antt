@@ -13,37 +13,37 @@ use Rattle.ens_base.specs.declared.reply.Reply.{Reply}
 use Rattle.ens_base.specs.declared.reply.Reply.TheVariants as replies
 use Rattle.register_model.specs.declared.call.Call.{Call}
 use Rattle.register_model.specs.Histories.{IsRefused}
-use Rattle.abstract_protocol.specs.Ledger.{put}
-use Rattle.abstract_protocol.specs.Book.{Book, MayCall, take_call}
-use Rattle.abstract_protocol.specs.Numbers.{epoch_number}
-use Rattle.abstract_protocol.specs.Protocol.{State, Step, Ask, IsRun, state_after, after, happens}
+use Rattle.protocol_laws.specs.Ledger.{put}
+use Rattle.protocol_laws.specs.Book.{Book, MayCall, take_call}
+use Rattle.protocol_laws.specs.Numbers.{epoch_number}
+use Rattle.protocol_laws.specs.Protocol.{State, Step, Ask, IsRun, state_after, after, happens}
 use Rattle.call_table.specs.Calls.{running, waiting_on}
 use Rattle.call_table.specs.Rows.{row_at}
 use Rattle.call_table.specs.declared.row.Known.{Known}
 use Rattle.call_table.specs.declared.row.Stage.{Stage}
 use Rattle.call_table.specs.declared.table.CallTable.{CallTable}
 use Rattle.call_table.specs.declared.waiting.Waiting.{Waiting}
-use Rattle.leader_words.specs.Outs.{rests, leads_on, and_answer}
-use Rattle.leader_words.specs.declared.out.AnswerOut.{AnswerOut}
-use Rattle.leader_words.specs.declared.out.LeadOut.{LeadOut}
-use Rattle.leader_words.specs.declared.out.Outgoing.{Outgoing}
+use Rattle.leader_output.specs.Outs.{rests, leads_on, and_answer}
+use Rattle.leader_output.specs.declared.out.AnswerOut.{AnswerOut}
+use Rattle.leader_output.specs.declared.out.LeadOut.{LeadOut}
+use Rattle.leader_output.specs.declared.out.Outgoing.{Outgoing}
 use Rattle.register_model.specs.declared.note.Note.{Note as Told}
-use Rattle.version_laws.proofs.Maps.{put_here, put_other}
-use Rattle.leading_laws.proofs.Moves.{free as ready_free}
-use Rattle.leading.specs.Leaders.{joined}
-use Rattle.leading.specs.Starts.{row_27}
-use Rattle.leading.specs.declared.leader.Leader.{Leader}
-use Rattle.leading.specs.declared.pending.Pending.{Pending}
-use Rattle.leading.specs.declared.pending.Pending.TheVariants as tasks
-use Rattle.leader_laws.proofs.Moves.{next_begins}
-use Rattle.leader_laws.proofs.Runs.{run_leaders, run_tables}
-use Rattle.leader_laws.specs.Laws.{LeadersMove, TablesStay}
-use Rattle.leader_laws.specs.Leaders.{RowHolds, TurnsHold}
-use Rattle.leader_laws.specs.Moves.{GhostsGrow, IsLeaderMove}
-use Rattle.leader_laws.specs.Tables as theory
-use Rattle.leader_laws.specs.Tables.{Ghosts, Owed}
-use Rattle.leading_laws.proofs.Joins.{none_before}
-use Rattle.leading_laws.proofs.Lookups.{nobody_waits}
+use Rattle.protocol_laws.proofs.Maps.{put_here, put_other}
+use Rattle.leader_laws.proofs.Moves.{free as ready_free}
+use Rattle.leader.specs.Leaders.{joined}
+use Rattle.leader.specs.Starts.{row_27}
+use Rattle.leader.specs.declared.leader.Leader.{Leader}
+use Rattle.leader.specs.declared.pending.Pending.{Pending}
+use Rattle.leader.specs.declared.pending.Pending.TheVariants as tasks
+use Rattle.role_laws.proofs.LeaderMoves.{next_begins}
+use Rattle.role_laws.proofs.Runs.{run_leaders, run_tables}
+use Rattle.role_laws.specs.LeaderLaws.{LeadersMove, TablesStay}
+use Rattle.role_laws.specs.Leaders.{RowHolds, TurnsHold}
+use Rattle.role_laws.specs.Moves.{GhostsGrow, IsLeaderMove}
+use Rattle.role_laws.specs.Tables as theory
+use Rattle.role_laws.specs.Tables.{Ghosts, Owed}
+use Rattle.leader_laws.proofs.Joins.{none_before}
+use Rattle.leader_laws.proofs.Lookups.{nobody_waits}
 use Rattle.leader_refinement.proofs.Base.{Elsewhere, IsSplit, finish, no_move, task_here, set_here, set_off, calls_split}
 use Rattle.leader_refinement.specs.Seen.{ids_on, known_of, running_stage, waiting_behind, row_seen, task_on, table_of, owed_after}
 use Rattle.leader_refinement.specs.Follows.{TaskHolds, IsAtWork, CallsAgree, IsReadyFor, NextFits, Follows, TakesCall, SentSays}

@@ -5,24 +5,24 @@ use Rattle.std.proofs.Common.{◌≡◌, inl, inr, ℕ, Bool, true, false, cond,
 use Rattle.ens_base.specs.Lists.{◌∈◌, AreDistinct, same_bytes}
 use Rattle.ens_base.proofs.Lists.{bytes_itself}
 use Rattle.ens_base.specs.declared.reply.Reply.{Reply}
-use Rattle.abstract_protocol.specs.Book.{Book}
-use Rattle.abstract_protocol.specs.Protocol.{State, Step, IsRun, state_after, after}
+use Rattle.protocol_laws.specs.Book.{Book}
+use Rattle.protocol_laws.specs.Protocol.{State, Step, IsRun, state_after, after}
 use Rattle.call_table.specs.Calls.{running}
 use Rattle.call_table.specs.Rows.{row_at}
 use Rattle.call_table.specs.declared.row.Stage.{Stage}
 use Rattle.call_table.specs.declared.row.Stage.TheVariants as stages
 use Rattle.call_table.specs.declared.table.CallTable.{CallTable}
 use Rattle.call_table.specs.declared.waiting.Waiting.{Waiting}
-use Rattle.leading.specs.Ticks.{left_answer}
-use Rattle.leading.specs.declared.leader.Leader.{Leader}
-use Rattle.leading.specs.declared.pending.Pending.{Pending}
-use Rattle.leading.specs.declared.pending.Pending.TheVariants as tasks
-use Rattle.leader_laws.proofs.Runs.{run_leaders}
-use Rattle.leader_laws.proofs.Tables.{leader_same}
-use Rattle.leader_laws.specs.Leaders.{LeaderHolds, OwesHold}
-use Rattle.leader_laws.specs.Moves.{IsLeaderMove}
-use Rattle.leader_laws.specs.Tables as theory
-use Rattle.leader_laws.specs.Tables.{Ghosts, Owed, calls_of, timeouts}
+use Rattle.leader.specs.Ticks.{left_answer}
+use Rattle.leader.specs.declared.leader.Leader.{Leader}
+use Rattle.leader.specs.declared.pending.Pending.{Pending}
+use Rattle.leader.specs.declared.pending.Pending.TheVariants as tasks
+use Rattle.role_laws.proofs.Runs.{run_leaders}
+use Rattle.role_laws.proofs.Tables.{leader_same}
+use Rattle.role_laws.specs.Leaders.{LeaderHolds, OwesHold}
+use Rattle.role_laws.specs.Moves.{IsLeaderMove}
+use Rattle.role_laws.specs.Tables as theory
+use Rattle.role_laws.specs.Tables.{Ghosts, Owed, calls_of, timeouts}
 use Rattle.leader_refinement.proofs.Base.{IsSplit, calls_split}
 use Rattle.leader_refinement.specs.Seen.{tasked, running_stage, ids_on, ids_of, waiting_behind, row_seen, task_on, table_of, owed_after}
 use Rattle.leader_refinement.specs.Follows.{TaskHolds, IsAtWork}

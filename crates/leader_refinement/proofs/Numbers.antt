@@ -2,14 +2,14 @@
 use Rattle.std.proofs.Common.{◌≡◌, ◌<◌, false, ◌==◌, Option, Some, None, arith, refl, ap}
 use Rattle.std.proofs.lemmas.Bool.Decides.{nat_tests}
 use Rattle.ens_base.specs.declared.epoch.Version.{Version}
-use Rattle.abstract_protocol.specs.Numbers.{epoch_number, IsVersion}
-use Rattle.abstract_protocol.specs.Book.{version_of, version_or_none}
+use Rattle.protocol_laws.specs.Numbers.{epoch_number, IsVersion}
+use Rattle.protocol_laws.specs.Book.{version_of, version_or_none}
 use Rattle.call_table.specs.Rows.{base_of}
 use Rattle.call_table.specs.declared.row.Known.{Known}
 use Rattle.call_table.specs.declared.row.Known.TheVariants as knowns
-use Rattle.abstract_protocol.proofs.Ranks.{version_of-rank}
+use Rattle.protocol_laws.proofs.Ranks.{version_of-rank}
 use Rattle.register_model.specs.Orders as register
-use Rattle.leader_laws.specs.Tables as theory
+use Rattle.role_laws.specs.Tables as theory
 use Rattle.leader_refinement.specs.Seen.{rank, rank_or_none}
 use Rattle.leader_refinement.specs.Follows.{MayBeVersion, KnownFits, settled_rank}
 

@@ -1,12 +1,12 @@
 -- A leader begins, and is seen as a leader of the theory that begins.
 use Rattle.std.proofs.Common.{◌≡◌, ℕ, List, [], lit<, refl}
-use Rattle.abstract_protocol.specs.Numbers.{epoch_number}
-use Rattle.abstract_protocol.specs.Protocol.{Step, IsRun, state_after}
+use Rattle.protocol_laws.specs.Numbers.{epoch_number}
+use Rattle.protocol_laws.specs.Protocol.{Step, IsRun, state_after}
 use Rattle.call_table.specs.Rows.{row_at}
 use Rattle.call_table.specs.declared.row.Stage.TheVariants as stages
-use Rattle.leader_laws.proofs.Runs.{run_leaders}
-use Rattle.leader_laws.proofs.Tables.{leader_same}
-use Rattle.leader_laws.specs.Tables as theory
+use Rattle.role_laws.proofs.Runs.{run_leaders}
+use Rattle.role_laws.proofs.Tables.{leader_same}
+use Rattle.role_laws.specs.Tables as theory
 use Rattle.leader_refinement.specs.Seen.{known_of}
 use Rattle.leader_refinement.specs.Follows.{Hash, RowFits}
 use Rattle.leader_refinement.specs.Laws.{LeadersBegin}

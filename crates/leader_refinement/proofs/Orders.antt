@@ -11,12 +11,12 @@ use Rattle.ens_base.specs.Epochs.{version_cmp}
 use Rattle.ens_base.specs.Lists.{bytes_cmp}
 use Rattle.ens_base.specs.declared.entry.Entry.{Entry}
 use Rattle.ens_base.specs.declared.epoch.Version.{Version}
-use Rattle.ens_object.specs.declared.object.Object.{Object}
-use Rattle.abstract_protocol.specs.Book.{version_of}
-use Rattle.abstract_protocol.specs.Numbers.{epoch_number, IsVersion}
+use Rattle.stored_formats.specs.declared.object.Object.{Object}
+use Rattle.protocol_laws.specs.Book.{version_of}
+use Rattle.protocol_laws.specs.Numbers.{epoch_number, IsVersion}
 use Rattle.call_table.specs.Best.{entry_cmp, either_object, better_at, better}
 use Rattle.call_table.specs.declared.row.Found.{Found}
-use Rattle.leader_laws.specs.Tables as theory
+use Rattle.role_laws.specs.Tables as theory
 use Rattle.leader_refinement.proofs.Numbers.{rank_back, rank_some}
 use Rattle.leader_refinement.specs.Seen.{rank, content_or_none, best_rank, best_object, entry_rank, shown}
 use Rattle.leader_refinement.specs.Follows.{FoundFits, FoundNames, Hash}

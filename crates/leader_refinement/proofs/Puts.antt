@@ -10,20 +10,20 @@ use Rattle.ens_base.proofs.Lists.{bytes_itself}
 use Rattle.ens_base.specs.declared.epoch.Epoch.{Epoch}
 use Rattle.ens_base.specs.declared.epoch.Version.{Version}
 use Rattle.ens_base.specs.declared.reply.Reply.TheVariants as replies
-use Rattle.ens_object.specs.declared.object.Object.{Object}
+use Rattle.stored_formats.specs.declared.object.Object.{Object}
 use Rattle.phase_rows.specs.Orders.{is_same}
-use Rattle.joint_views.specs.Quorums.{is_quorum}
-use Rattle.quorum_round.specs.Rounds.{begun, answered as heard_from, state_of}
-use Rattle.quorum_round.specs.declared.round.Round.{Round}
-use Rattle.quorum_round.specs.declared.round.RoundState.{RoundState}
-use Rattle.quorum_round.specs.declared.round.RoundState.TheVariants.{Open, Met, AllAnswered}
+use Rattle.quorums.specs.Quorums.{is_quorum}
+use Rattle.quorums.specs.Rounds.{begun, answered as heard_from, state_of}
+use Rattle.quorums.specs.declared.round.Round.{Round}
+use Rattle.quorums.specs.declared.round.RoundState.{RoundState}
+use Rattle.quorums.specs.declared.round.RoundState.TheVariants.{Open, Met, AllAnswered}
 use Rattle.register_model.specs.declared.note.Note.TheVariants.{Settled}
 use Rattle.wire_frames.specs.declared.message.Message.TheVariants as messages
-use Rattle.abstract_protocol.specs.Ledger.{put}
-use Rattle.abstract_protocol.specs.Book.{register_at, version_of}
-use Rattle.abstract_protocol.specs.Numbers.{epoch_number, IsVersion}
-use Rattle.abstract_protocol.specs.Objects.{set_entry}
-use Rattle.abstract_protocol.specs.Protocol.{State, Step, Propose, Settle, Note, Write, Acknowledge, IsRun, state_after, after, happens, MayCome, MayAll}
+use Rattle.protocol_laws.specs.Ledger.{put}
+use Rattle.protocol_laws.specs.Book.{register_at, version_of}
+use Rattle.protocol_laws.specs.Numbers.{epoch_number, IsVersion}
+use Rattle.protocol_laws.specs.Objects.{set_entry}
+use Rattle.protocol_laws.specs.Protocol.{State, Step, Propose, Settle, Note, Write, Acknowledge, IsRun, state_after, after, happens, MayCome, MayAll}
 use Rattle.call_table.specs.Calls.{running}
 use Rattle.call_table.specs.Rows.{row_at, with_stage, with_known}
 use Rattle.call_table.specs.declared.row.KeyRow.{KeyRow}
@@ -32,32 +32,32 @@ use Rattle.call_table.specs.declared.row.Stage.{Stage}
 use Rattle.call_table.specs.declared.row.Stage.TheVariants as stages
 use Rattle.call_table.specs.declared.table.CallTable.{CallTable}
 use Rattle.call_table.specs.declared.waiting.Waiting.{Waiting}
-use Rattle.leader_words.specs.Outs.{rests, and_note}
-use Rattle.leader_words.specs.Sends.{is_other, sent_up_to}
-use Rattle.leader_words.specs.declared.out.LeadOut.{LeadOut}
-use Rattle.leader_words.specs.declared.out.Outgoing.{Outgoing}
-use Rattle.leading_laws.proofs.Lookups.{known_other}
-use Rattle.version_laws.proofs.Maps.{put_here, mark_here}
-use Rattle.leading.specs.Leaders.{with_task, stands, knows, settled_as}
-use Rattle.leading.specs.Puts.{write_settled, settled_for, acknowledged, put_stored, put_for, acknowledged_by}
-use Rattle.leading.specs.declared.leader.Leader.{Leader}
-use Rattle.leading.specs.declared.pending.Pending.{Pending}
-use Rattle.leading.specs.declared.pending.Pending.TheVariants as tasks
-use Rattle.leader_laws.proofs.Moves.{write_counts, rewrite_counts}
-use Rattle.leader_laws.proofs.Outcomes.{object_register}
-use Rattle.leader_laws.proofs.Rounds.{ghosts_same}
-use Rattle.leader_laws.proofs.Runs.{run_leaders, run_tables, run_peers}
-use Rattle.leader_laws.specs.Laws.{LeadersMove, TablesStay}
-use Rattle.leader_laws.specs.Leaders.{RowHolds, LeaderHolds, PutHolds, TurnsHold}
-use Rattle.leader_laws.specs.Messages.{PutSays}
-use Rattle.leader_laws.specs.Moves.{IsLeaderMove}
-use Rattle.leader_laws.specs.Tables as theory
-use Rattle.leader_laws.specs.Tables.{Ghosts, Owed, Seat}
+use Rattle.leader_output.specs.Outs.{rests, and_note}
+use Rattle.leader_output.specs.Sends.{is_other, sent_up_to}
+use Rattle.leader_output.specs.declared.out.LeadOut.{LeadOut}
+use Rattle.leader_output.specs.declared.out.Outgoing.{Outgoing}
+use Rattle.leader_laws.proofs.Lookups.{known_other}
+use Rattle.protocol_laws.proofs.Maps.{put_here, mark_here}
+use Rattle.leader.specs.Leaders.{with_task, stands, knows, settled_as}
+use Rattle.leader.specs.Puts.{write_settled, settled_for, acknowledged, put_stored, put_for, acknowledged_by}
+use Rattle.leader.specs.declared.leader.Leader.{Leader}
+use Rattle.leader.specs.declared.pending.Pending.{Pending}
+use Rattle.leader.specs.declared.pending.Pending.TheVariants as tasks
+use Rattle.role_laws.proofs.LeaderMoves.{write_counts, rewrite_counts}
+use Rattle.role_laws.proofs.Outcomes.{object_register}
+use Rattle.role_laws.proofs.Rounds.{ghosts_same}
+use Rattle.role_laws.proofs.Runs.{run_leaders, run_tables, run_peers}
+use Rattle.role_laws.specs.LeaderLaws.{LeadersMove, TablesStay}
+use Rattle.role_laws.specs.Leaders.{RowHolds, LeaderHolds, PutHolds, TurnsHold}
+use Rattle.role_laws.specs.LeaderMessages.{PutSays}
+use Rattle.role_laws.specs.Moves.{IsLeaderMove}
+use Rattle.role_laws.specs.Tables as theory
+use Rattle.role_laws.specs.Tables.{Ghosts, Owed, Seat}
 use Rattle.leader_refinement.proofs.Answers.{answered_so, seat_owing}
-use Rattle.leading_laws.proofs.Moves.{runs as runs_now}
+use Rattle.leader_laws.proofs.Moves.{runs as runs_now}
 use Rattle.leader_refinement.proofs.Base.{AreElsewhere, row_of_work, finish, no_move, rests_so, stands_elsewhere, knows_elsewhere, stage_row, known_row, staged_fits, rows_fit, calm_staged, calm_known, set_here, off_same, row_told}
 use Rattle.leader_refinement.proofs.Numbers.{rank_back}
-use Rattle.leading_laws.proofs.Votes.{answered_on, begun_on}
+use Rattle.leader_laws.proofs.Votes.{answered_on, begun_on}
 use Rattle.leader_refinement.proofs.Votes.{answered_fewer, begun_fewer, IsClosed, closed_quorum, sent_say}
 use Rattle.leader_refinement.specs.Seen.{rank, content_of, known_of, voters, put_of, waiting_behind, row_parts, row_seen, table_of}
 use Rattle.leader_refinement.specs.Follows.{IsOn, PutFits, StageFits, RowFits, ProposeHolds, TaskHolds, IsAtWork, LeaderFits, IsLeaderStep, AreLeaderSteps, Follows, GoesOn, SentSays}

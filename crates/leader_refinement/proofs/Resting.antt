@@ -14,10 +14,10 @@ use Rattle.call_table.specs.declared.row.Stage.TheVariants as stages
 use Rattle.call_table.specs.declared.table.CallTable.{CallTable}
 use Rattle.call_table.specs.declared.waiting.DueCall.{DueCall}
 use Rattle.call_table.specs.declared.waiting.Waiting.{Waiting}
-use Rattle.leader_words.specs.Outs.{and_answer}
-use Rattle.leader_words.specs.declared.out.LeadOut.{LeadOut}
-use Rattle.leading.specs.Ticks.{and_key_if, timed_out}
-use Rattle.leading_laws.proofs.Lookups.{stage_other}
+use Rattle.leader_output.specs.Outs.{and_answer}
+use Rattle.leader_output.specs.declared.out.LeadOut.{LeadOut}
+use Rattle.leader.specs.Ticks.{and_key_if, timed_out}
+use Rattle.leader_laws.proofs.Lookups.{stage_other}
 use Rattle.leader_refinement.proofs.Base.{stage_row}
 use Rattle.leader_refinement.proofs.Staying.{is_due_call}
 

@@ -10,20 +10,20 @@ use Rattle.ens_base.specs.declared.command.Command.{Command}
 use Rattle.ens_base.specs.declared.command.Command.TheVariants.{Get, PutOnce, Update, Append, Add, Swap, Over, Delete}
 use Rattle.ens_base.specs.declared.epoch.Version.{Version}
 use Rattle.ens_base.specs.declared.reply.Reply.{Reply}
-use Rattle.ens_object.specs.declared.object.Object.{Object}
-use Rattle.kept_objects.specs.Kept.{matching, is_named}
-use Rattle.key_commands.specs.Commands.{register_of, verdict_of, stamp_verdict}
-use Rattle.key_commands.specs.declared.verdict.Verdict.{Verdict}
-use Rattle.key_commands.specs.declared.verdict.Verdict.TheVariants.{Answer, Write}
+use Rattle.stored_formats.specs.declared.object.Object.{Object}
+use Rattle.object_commands.specs.Kept.{matching, is_named}
+use Rattle.object_commands.specs.Commands.{register_of, verdict_of, stamp_verdict}
+use Rattle.object_commands.specs.declared.verdict.Verdict.{Verdict}
+use Rattle.object_commands.specs.declared.verdict.Verdict.TheVariants.{Answer, Write}
 use Rattle.register_model.specs.Registers.{Outcome, Keeps, Writes, outcome}
 use Rattle.register_model.specs.declared.register.Register.{Register}
 use Rattle.register_model.specs.declared.register.Register.TheVariants.{Absent, Present}
 use Rattle.phase_rows.specs.declared.phase.Seen.{Seen}
 use Rattle.phase_rows.specs.declared.phase.Seen.TheVariants as seens
 use Rattle.phase_rows.specs.declared.rules.KeyRule.TheVariants as key_rules
-use Rattle.abstract_protocol.specs.Book.{register_at, version_of}
-use Rattle.abstract_protocol.specs.Numbers.{epoch_number}
-use Rattle.abstract_protocol.specs.Protocol.{State, Step, IsRun, state_after}
+use Rattle.protocol_laws.specs.Book.{register_at, version_of}
+use Rattle.protocol_laws.specs.Numbers.{epoch_number}
+use Rattle.protocol_laws.specs.Protocol.{State, Step, IsRun, state_after}
 use Rattle.call_table.specs.Calls.{running}
 use Rattle.call_table.specs.Rows.{row_at}
 use Rattle.call_table.specs.declared.row.Known.{Known}
@@ -31,20 +31,20 @@ use Rattle.call_table.specs.declared.row.Known.TheVariants as knowns
 use Rattle.call_table.specs.declared.row.Stage.{Stage}
 use Rattle.call_table.specs.declared.row.Stage.TheVariants as stages
 use Rattle.call_table.specs.declared.waiting.Waiting.{Waiting}
-use Rattle.leader_words.specs.Outs.{rests, leads_on, and_own}
-use Rattle.leader_words.specs.declared.out.Own.TheVariants.{Fetch}
-use Rattle.leading.specs.Leaders.{base, decided}
-use Rattle.leading.specs.Starts.{on_object, by_value, by_stamp, on_present, by_known, started, next_call}
-use Rattle.leading.specs.declared.leader.Leader.{Leader}
-use Rattle.leading_laws.proofs.Moves.{free as ready_free}
-use Rattle.leading.specs.declared.pending.Pending.{Pending}
-use Rattle.leading.specs.declared.pending.Pending.TheVariants as tasks
-use Rattle.leader_laws.proofs.Guards.{settled_parent}
-use Rattle.leader_laws.proofs.Runs.{run_keys}
-use Rattle.leader_laws.specs.Laws.{KeyLaws}
-use Rattle.leader_laws.specs.Leaders.{RowHolds, KnownHolds, HeldHolds, IsSettledKey, IsObjectOf, IsParent}
-use Rattle.leader_laws.specs.Rows.{needs_bytes}
-use Rattle.leader_laws.specs.Tables.{Ghosts, Owed}
+use Rattle.leader_output.specs.Outs.{rests, leads_on, and_own}
+use Rattle.leader_output.specs.declared.out.Own.TheVariants.{Fetch}
+use Rattle.leader.specs.Leaders.{base, decided}
+use Rattle.leader.specs.Starts.{on_object, by_value, by_stamp, on_present, by_known, started, next_call}
+use Rattle.leader.specs.declared.leader.Leader.{Leader}
+use Rattle.leader_laws.proofs.Moves.{free as ready_free}
+use Rattle.leader.specs.declared.pending.Pending.{Pending}
+use Rattle.leader.specs.declared.pending.Pending.TheVariants as tasks
+use Rattle.role_laws.proofs.Guards.{settled_parent}
+use Rattle.role_laws.proofs.Runs.{run_keys}
+use Rattle.role_laws.specs.LeaderLaws.{KeyLaws}
+use Rattle.role_laws.specs.Leaders.{RowHolds, KnownHolds, HeldHolds, IsSettledKey, IsObjectOf, IsParent}
+use Rattle.role_laws.specs.Rows.{needs_bytes}
+use Rattle.role_laws.specs.Tables.{Ghosts, Owed}
 use Rattle.leader_refinement.proofs.Base.{stays, rests_so, tasked_so, row_told}
 use Rattle.leader_refinement.proofs.Numbers.{base_rank, base_fits}
 use Rattle.leader_refinement.specs.Seen.{rank, content_of, known_of, waiting_behind, row_parts}

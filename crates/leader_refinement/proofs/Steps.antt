@@ -1,11 +1,11 @@
 -- What the steps of a leader keep as it was, and what is kept of a leader.
 use Rattle.std.proofs.Common.{◌≡◌, ◌⊎◌, inl, inr, ℕ, ◌==◌, ◌&&◌, ◌||◌, Bool, true, false, eqb-true, List, [], ◌∷◌, refl, sym, ap, subst, ◌∙◌}
 use Rattle.std.proofs.lemmas.Bool.{and_parts}
-use Rattle.abstract_protocol.specs.Ledger.{mark}
-use Rattle.abstract_protocol.specs.Protocol.{State, Step, Propose, Settle, Note, Acknowledge, happens, after}
+use Rattle.protocol_laws.specs.Ledger.{mark}
+use Rattle.protocol_laws.specs.Protocol.{State, Step, Propose, Settle, Note, Acknowledge, happens, after}
 use Rattle.call_table.specs.declared.waiting.Waiting.{Waiting}
 use Rattle.register_model.specs.declared.call.Call.{Call}
-use Rattle.entry_laws.specs.Stays.{EntriesStay}
+use Rattle.protocol_laws.specs.Stays.{EntriesStay}
 use Rattle.leader_refinement.specs.Follows.{CallsAgree, IsLeaderStep, AreLeaderSteps, IsKept}
 use Rattle.leader_refinement.specs.Laws.{StepsKeep, AcksAreShown, FitsStay}
 

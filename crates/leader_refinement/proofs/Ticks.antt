@@ -3,9 +3,9 @@ use Rattle.std.specs.Prelude.{map}
 use Rattle.std.proofs.Common.{◌≡◌, ◌⊎◌, inl, inr, ℕ, ◌||◌, Bool, true, false, cond, filter, if◌then◌else◌, List, [], ◌∷◌, ◌++◌, Option, Some, None, refl, sym, ap, subst, ◌∙◌}
 use Rattle.std.proofs.lemmas.Bool.{or_parts}
 use Rattle.ens_base.specs.Lists.{◌∈◌, same_bytes}
-use Rattle.abstract_protocol.specs.Book.{Book}
-use Rattle.abstract_protocol.specs.Numbers.{epoch_number}
-use Rattle.abstract_protocol.specs.Protocol.{State, Step, IsRun, state_after}
+use Rattle.protocol_laws.specs.Book.{Book}
+use Rattle.protocol_laws.specs.Numbers.{epoch_number}
+use Rattle.protocol_laws.specs.Protocol.{State, Step, IsRun, state_after}
 use Rattle.call_table.specs.Calls.{running, older, is_due, not_due, due}
 use Rattle.call_table.specs.Rows.{row_at, has_put}
 use Rattle.call_table.specs.Tables.{without_due, late_put}
@@ -15,23 +15,23 @@ use Rattle.call_table.specs.declared.row.Stage.{Stage}
 use Rattle.call_table.specs.declared.row.Stage.TheVariants as stages
 use Rattle.call_table.specs.declared.table.CallTable.{CallTable}
 use Rattle.call_table.specs.declared.waiting.Waiting.{Waiting}
-use Rattle.leader_words.specs.Outs.{comes, leaves}
-use Rattle.leader_words.specs.declared.out.AnswerOut.{AnswerOut}
-use Rattle.leader_words.specs.declared.out.LeadOut.{LeadOut}
+use Rattle.leader_output.specs.Outs.{comes, leaves}
+use Rattle.leader_output.specs.declared.out.AnswerOut.{AnswerOut}
+use Rattle.leader_output.specs.declared.out.LeadOut.{LeadOut}
 use Rattle.phase_rows.specs.declared.phase.Then.TheVariants.{OnKeys}
 use Rattle.phase_rows.specs.declared.rules.KeyRule.TheVariants as key_rules
-use Rattle.leading_laws.specs.Steps.{IsCalm}
-use Rattle.leading.specs.Ticks.{Finishing, is_late, timed_out, aged, row_5_calls, left_answer}
-use Rattle.leading.specs.declared.leader.Leader.{Leader}
-use Rattle.leading.specs.declared.pending.Pending.{Pending}
-use Rattle.leading.specs.declared.pending.Pending.TheVariants as tasks
-use Rattle.leading_laws.proofs.TimeOuts.{IsTick, row_5_ticks, without_due_calls as calls_left}
-use Rattle.leader_laws.proofs.Acts.{reading_began, checking_began, began_ends}
-use Rattle.leader_laws.proofs.Tables.{leader_same}
-use Rattle.leader_laws.proofs.Turns.{leader_leaves}
-use Rattle.leader_laws.specs.Leaders.{CallHolds, RowHolds, LeaderHolds}
-use Rattle.leader_laws.specs.Tables as theory
-use Rattle.leader_laws.specs.Tables.{Ghosts, Owed, Seat, calls_owed, timeouts}
+use Rattle.leader_laws.specs.Steps.{IsCalm}
+use Rattle.leader.specs.Ticks.{Finishing, is_late, timed_out, aged, row_5_calls, left_answer}
+use Rattle.leader.specs.declared.leader.Leader.{Leader}
+use Rattle.leader.specs.declared.pending.Pending.{Pending}
+use Rattle.leader.specs.declared.pending.Pending.TheVariants as tasks
+use Rattle.leader_laws.proofs.TimeOuts.{IsTick, row_5_ticks, without_due_calls as calls_left}
+use Rattle.role_laws.proofs.Acts.{reading_began, checking_began, began_ends}
+use Rattle.role_laws.proofs.Tables.{leader_same}
+use Rattle.role_laws.proofs.Turns.{leader_leaves}
+use Rattle.role_laws.specs.Leaders.{CallHolds, RowHolds, LeaderHolds}
+use Rattle.role_laws.specs.Tables as theory
+use Rattle.role_laws.specs.Tables.{Ghosts, Owed, Seat, calls_owed, timeouts}
 use Rattle.leader_refinement.proofs.Base.{IsSplit, calls_split, begins, no_move}
 use Rattle.leader_refinement.proofs.Leaving.{running_calls, ids_distinct, ids_among, owed_timeouts, no_task_on, keys_alike}
 use Rattle.leader_refinement.proofs.Resting.{idle_if, row_left, named_idle, due_has_no_put}

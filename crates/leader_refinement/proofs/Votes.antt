@@ -3,24 +3,24 @@ use Rattle.std.specs.Prelude.{All, replicate, slice_set}
 use Rattle.std.proofs.Common.{◌≡◌, ℕ, zero, suc, ◌+◌, Bool, true, false, if◌then◌else◌, List, [], ◌∷◌, refl, sym, ◌∙◌}
 use Rattle.std.proofs.lemmas.Bool.{false≢true}
 use Rattle.std.proofs.lemmas.List.Elements.{All-nil, All-cons, All-append}
-use Rattle.abstract_protocol.specs.Ledger.{put}
+use Rattle.protocol_laws.specs.Ledger.{put}
 use Rattle.ens_base.specs.PeerSet.{holds}
-use Rattle.joint_views.specs.Quorums.{is_member, is_quorum, has_every}
-use Rattle.joint_views.proofs.Sets.{no_flag}
-use Rattle.quorum_round.specs.Rounds.{answered, begun, state_of}
-use Rattle.quorum_round.specs.declared.round.Round.{Round}
-use Rattle.quorum_round.specs.declared.round.RoundState.{RoundState}
-use Rattle.quorum_round.specs.declared.round.RoundState.TheVariants.{Open, Met, AllAnswered}
-use Rattle.leader_words.specs.Sends.{sent_up_to}
-use Rattle.leader_words.specs.declared.out.Outgoing.{Outgoing}
+use Rattle.quorums.specs.Quorums.{is_member, is_quorum, has_every}
+use Rattle.quorums.proofs.Sets.{no_flag}
+use Rattle.quorums.specs.Rounds.{answered, begun, state_of}
+use Rattle.quorums.specs.declared.round.Round.{Round}
+use Rattle.quorums.specs.declared.round.RoundState.{RoundState}
+use Rattle.quorums.specs.declared.round.RoundState.TheVariants.{Open, Met, AllAnswered}
+use Rattle.leader_output.specs.Sends.{sent_up_to}
+use Rattle.leader_output.specs.declared.out.Outgoing.{Outgoing}
 use Rattle.wire_frames.specs.declared.message.Message.{Message}
-use Rattle.abstract_protocol.specs.Protocol.{State}
-use Rattle.leader_laws.specs.Tables.{Ghosts}
-use Rattle.leading_laws.proofs.Votes.{set_then}
+use Rattle.protocol_laws.specs.Protocol.{State}
+use Rattle.role_laws.specs.Tables.{Ghosts}
+use Rattle.leader_laws.proofs.Votes.{set_then}
 use Rattle.leader_refinement.specs.Seen.{voters}
 use Rattle.leader_refinement.specs.Follows.{SendSays, SentSays}
-use Rattle.version_laws.proofs.Maps.{put_here}
-use Rattle.version_laws.proofs.Descent.{put_stays}
+use Rattle.protocol_laws.proofs.Maps.{put_here}
+use Rattle.protocol_laws.proofs.Descent.{put_stays}
 
 -- what holds of a peer and of all that answered before holds of all that have answered
 pub answered_then : (P : ℕ → Type 0) (round : Round) (from : ℕ) → P from → ((q : ℕ) → voters round q ≡ true → P q) → (q : ℕ) → voters (answered from round) q ≡ true → P q

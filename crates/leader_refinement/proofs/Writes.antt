@@ -6,29 +6,29 @@ use Rattle.std.proofs.Math.Numerals.{suc-eq-add-one}
 use Rattle.phase_rows.specs.declared.rules.KeyRule.TheVariants as key_rules
 use Rattle.ens_base.specs.declared.command.Command.{Command}
 use Rattle.ens_base.specs.declared.epoch.Version.{Version}
-use Rattle.ens_object.specs.declared.object.Object.{Object}
+use Rattle.stored_formats.specs.declared.object.Object.{Object}
 use Rattle.register_model.specs.Registers.{outcome}
 use Rattle.register_model.specs.declared.note.Note.TheVariants.{Proposed}
-use Rattle.abstract_protocol.specs.Book.{register_at, version_of, version_or_none}
-use Rattle.abstract_protocol.specs.Numbers.{epoch_number, IsVersion}
-use Rattle.abstract_protocol.specs.Protocol.{State, Step, Propose, IsRun, state_after, after}
+use Rattle.protocol_laws.specs.Book.{register_at, version_of, version_or_none}
+use Rattle.protocol_laws.specs.Numbers.{epoch_number, IsVersion}
+use Rattle.protocol_laws.specs.Protocol.{State, Step, Propose, IsRun, state_after, after}
 use Rattle.call_table.specs.Calls.{running}
 use Rattle.call_table.specs.Rows.{row_at}
 use Rattle.call_table.specs.declared.waiting.Waiting.{Waiting}
-use Rattle.leader_words.specs.Outs.{rests, leaves, leads_on, and_own, and_note}
-use Rattle.leader_words.specs.declared.out.LeadOut.{LeadOut}
-use Rattle.leader_words.specs.declared.out.Own.TheVariants as owns
-use Rattle.leading.specs.Leaders.{with_task, is_spent}
-use Rattle.leading.specs.Puts.{written_for, rewritten}
-use Rattle.leading.specs.declared.leader.Leader.{Leader}
-use Rattle.leading.specs.declared.pending.Pending.{Pending}
-use Rattle.leading.specs.declared.pending.Pending.TheVariants as tasks
-use Rattle.leader_laws.proofs.Runs.{run_leaders, run_tables}
-use Rattle.leader_laws.specs.Laws.{LeadersMove, TablesStay}
-use Rattle.leader_laws.specs.Leaders.{RowHolds}
-use Rattle.leader_laws.specs.Moves.{IsLeaderMove, put_write, write_step}
-use Rattle.leader_laws.specs.Tables as theory
-use Rattle.leader_laws.specs.Tables.{Ghosts, Owed}
+use Rattle.leader_output.specs.Outs.{rests, leaves, leads_on, and_own, and_note}
+use Rattle.leader_output.specs.declared.out.LeadOut.{LeadOut}
+use Rattle.leader_output.specs.declared.out.Own.TheVariants as owns
+use Rattle.leader.specs.Leaders.{with_task, is_spent}
+use Rattle.leader.specs.Puts.{written_for, rewritten}
+use Rattle.leader.specs.declared.leader.Leader.{Leader}
+use Rattle.leader.specs.declared.pending.Pending.{Pending}
+use Rattle.leader.specs.declared.pending.Pending.TheVariants as tasks
+use Rattle.role_laws.proofs.Runs.{run_leaders, run_tables}
+use Rattle.role_laws.specs.LeaderLaws.{LeadersMove, TablesStay}
+use Rattle.role_laws.specs.Leaders.{RowHolds}
+use Rattle.role_laws.specs.Moves.{IsLeaderMove, put_write, write_step}
+use Rattle.role_laws.specs.Tables as theory
+use Rattle.role_laws.specs.Tables.{Ghosts, Owed}
 use Rattle.leader_refinement.proofs.Base.{finish, set_here, agree_running, row_told}
 use Rattle.leader_refinement.proofs.Numbers.{rank_back, option_back}
 use Rattle.leader_refinement.specs.Seen.{rank, rank_or_none, content_of, known_of, waiting_behind, row_parts, table_of}

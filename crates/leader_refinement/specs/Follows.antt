@@ -3,15 +3,15 @@ use Rattle.std.specs.Prelude.{◌≡◌, ◌⊎◌, ◌<◌, ◌^◌, ℕ, Bool,
 use Rattle.ens_base.specs.Lists.{◌∈◌, AreDistinct}
 use Rattle.ens_base.specs.declared.epoch.Version.{Version}
 use Rattle.ens_base.specs.declared.reply.Reply.{Reply}
-use Rattle.ens_object.specs.declared.object.Object.{Object}
-use Rattle.leading.specs.Rounds.{register_at as object_register}
+use Rattle.stored_formats.specs.declared.object.Object.{Object}
+use Rattle.leader.specs.Rounds.{register_at as object_register}
 use Rattle.register_model.specs.Registers.{outcome, Keeps, Writes}
 use Rattle.register_model.specs.declared.call.Call.{Call}
-use Rattle.abstract_protocol.specs.Numbers.{epoch_number, IsEpoch, IsVersion}
-use Rattle.abstract_protocol.specs.Book.{Book, register_at}
-use Rattle.peer_fact.specs.declared.fact.Fact.{Fact}
-use Rattle.abstract_protocol.specs.Protocol.{State, Step, Acknowledge, Ask, Propose, Settle, Note, happens, after}
-use Rattle.quorum_round.specs.declared.round.Round.{Round}
+use Rattle.protocol_laws.specs.Numbers.{epoch_number, IsEpoch, IsVersion}
+use Rattle.protocol_laws.specs.Book.{Book, register_at}
+use Rattle.stored_formats.specs.declared.fact.Fact.{Fact}
+use Rattle.protocol_laws.specs.Protocol.{State, Step, Acknowledge, Ask, Propose, Settle, Note, happens, after}
+use Rattle.quorums.specs.declared.round.Round.{Round}
 use Rattle.wire_frames.specs.declared.message.Message.{Message}
 use Rattle.wire_frames.specs.declared.message.Message.TheVariants as messages
 use Rattle.phase_rows.specs.declared.phase.Then.{Then}
@@ -27,20 +27,20 @@ use Rattle.call_table.specs.declared.row.Stage.{Stage}
 use Rattle.call_table.specs.declared.row.Stage.TheVariants as stages
 use Rattle.call_table.specs.declared.row.KeyRow.{KeyRow}
 use Rattle.call_table.specs.declared.waiting.Waiting.{Waiting}
-use Rattle.leader_words.specs.Outs.{comes, leaves}
-use Rattle.leader_words.specs.declared.out.LeadOut.{LeadOut}
-use Rattle.leader_words.specs.declared.out.Outgoing.{Outgoing}
-use Rattle.leader_words.specs.declared.out.Own.{Own}
-use Rattle.leader_words.specs.declared.out.Own.TheVariants as owns
-use Rattle.leading_laws.specs.Steps.{IsCalm, IsReady}
-use Rattle.leading.specs.Ticks.{left_answer}
-use Rattle.leading.specs.declared.leader.Leader.{Leader}
-use Rattle.leading.specs.declared.pending.Pending.{Pending}
-use Rattle.leading.specs.declared.pending.Pending.TheVariants as tasks
-use Rattle.leader_laws.specs.Tables.{Ghosts, Owed, base_of, calls_of, timeouts, with_home}
-use Rattle.leader_laws.specs.Leaders.{LeaderHolds, TurnsHold, OwesHold, IsParent, IsObjectOf, IsSettledKey, IsFresh}
-use Rattle.leader_laws.specs.Messages.{GetSays, CheckSays, PutSays}
-use Rattle.leader_laws.specs.Moves.{IsLeaderMove}
+use Rattle.leader_output.specs.Outs.{comes, leaves}
+use Rattle.leader_output.specs.declared.out.LeadOut.{LeadOut}
+use Rattle.leader_output.specs.declared.out.Outgoing.{Outgoing}
+use Rattle.leader_output.specs.declared.out.Own.{Own}
+use Rattle.leader_output.specs.declared.out.Own.TheVariants as owns
+use Rattle.leader_laws.specs.Steps.{IsCalm, IsReady}
+use Rattle.leader.specs.Ticks.{left_answer}
+use Rattle.leader.specs.declared.leader.Leader.{Leader}
+use Rattle.leader.specs.declared.pending.Pending.{Pending}
+use Rattle.leader.specs.declared.pending.Pending.TheVariants as tasks
+use Rattle.role_laws.specs.Tables.{Ghosts, Owed, base_of, calls_of, timeouts, with_home}
+use Rattle.role_laws.specs.Leaders.{LeaderHolds, TurnsHold, OwesHold, IsParent, IsObjectOf, IsSettledKey, IsFresh}
+use Rattle.role_laws.specs.LeaderMessages.{GetSays, CheckSays, PutSays}
+use Rattle.role_laws.specs.Moves.{IsLeaderMove}
 use Rattle.leader_refinement.specs.Seen.{rank, rank_or_none, content_of, known_of, ids_of, table_of, owed_after}
 
 -- ## Numbers and rounds of a row

@@ -5,32 +5,32 @@ use Rattle.ens_base.specs.declared.entry.Entry.{Entry}
 use Rattle.ens_base.specs.declared.epoch.Epoch.{Epoch}
 use Rattle.ens_base.specs.declared.reply.Reply.{Reply}
 use Rattle.ens_base.specs.declared.epoch.Version.{Version}
-use Rattle.ens_object.specs.declared.object.Object.{Object}
+use Rattle.stored_formats.specs.declared.object.Object.{Object}
 use Rattle.phase_rows.specs.declared.phase.Seen.{Seen}
 use Rattle.phase_rows.specs.declared.phase.Seen.TheVariants as seens
-use Rattle.abstract_protocol.specs.Book.{version_of}
-use Rattle.abstract_protocol.specs.Protocol.{State, Step, Write, MayCome, happens, after}
-use Rattle.abstract_protocol.specs.Numbers.{epoch_number, IsEpoch, IsVersion}
-use Rattle.abstract_protocol.specs.Ledger.{is_established}
+use Rattle.protocol_laws.specs.Book.{version_of}
+use Rattle.protocol_laws.specs.Protocol.{State, Step, Write, MayCome, happens, after}
+use Rattle.protocol_laws.specs.Numbers.{epoch_number, IsEpoch, IsVersion}
+use Rattle.protocol_laws.specs.Ledger.{is_established}
 use Rattle.call_table.specs.Best.{better}
 use Rattle.call_table.specs.Rows.{row_at, check_at}
 use Rattle.call_table.specs.declared.row.Found.{Found}
 use Rattle.call_table.specs.declared.row.Stage.TheVariants as stages
-use Rattle.leader_words.specs.declared.out.LeadOut.{LeadOut}
-use Rattle.peer_fact.specs.declared.fact.Fact.{Fact}
-use Rattle.leading.specs.Leaders.{new_leader}
-use Rattle.leading.specs.Puts.{row_31, row_32, row_35, row_35_reply}
-use Rattle.leading.specs.Rounds.{row_29, row_29_reply, row_30, row_33, row_33_reply, row_34}
-use Rattle.leading.specs.Starts.{row_27, row_28, row_36}
-use Rattle.leading.specs.Ticks.{Finishing, aged, row_5_calls}
-use Rattle.leading.specs.declared.leader.Leader.{Leader}
-use Rattle.leading.specs.declared.pending.Pending.TheVariants as tasks
-use Rattle.entry_laws.specs.Stays.{EntriesStay}
-use Rattle.leader_laws.specs.Tables as theory
-use Rattle.leader_laws.specs.Tables.{Ghosts, Owed}
-use Rattle.leader_laws.specs.Leaders.{IsObjectOf, IsUnled, OwesHold, TurnsHold}
-use Rattle.leader_laws.specs.Messages.{CheckReplySays, GetReplySays, PutSays}
-use Rattle.leader_laws.specs.Moves.{IsLeaderMove}
+use Rattle.leader_output.specs.declared.out.LeadOut.{LeadOut}
+use Rattle.stored_formats.specs.declared.fact.Fact.{Fact}
+use Rattle.leader.specs.Leaders.{new_leader}
+use Rattle.leader.specs.Puts.{row_31, row_32, row_35, row_35_reply}
+use Rattle.leader.specs.Rounds.{row_29, row_29_reply, row_30, row_33, row_33_reply, row_34}
+use Rattle.leader.specs.Starts.{row_27, row_28, row_36}
+use Rattle.leader.specs.Ticks.{Finishing, aged, row_5_calls}
+use Rattle.leader.specs.declared.leader.Leader.{Leader}
+use Rattle.leader.specs.declared.pending.Pending.TheVariants as tasks
+use Rattle.protocol_laws.specs.Stays.{EntriesStay}
+use Rattle.role_laws.specs.Tables as theory
+use Rattle.role_laws.specs.Tables.{Ghosts, Owed}
+use Rattle.role_laws.specs.Leaders.{IsObjectOf, IsUnled, OwesHold, TurnsHold}
+use Rattle.role_laws.specs.LeaderMessages.{CheckReplySays, GetReplySays, PutSays}
+use Rattle.role_laws.specs.Moves.{IsLeaderMove}
 use Rattle.leader_refinement.specs.Seen.{rank, content_of, entry_rank, shown, table_of}
 use Rattle.leader_refinement.specs.Follows.{Hash, FoundNames, LeaderFits, IsAtWork, AreLeaderSteps, IsKept, GoesOn, TakesCall, Ends, TimesOut, Leaves}
 

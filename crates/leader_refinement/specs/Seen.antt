@@ -6,9 +6,9 @@ use Rattle.ens_base.specs.Lists.{same_bytes}
 use Rattle.ens_base.specs.PeerSet.{holds}
 use Rattle.ens_base.specs.declared.entry.Entry.{Entry}
 use Rattle.ens_base.specs.declared.epoch.Version.{Version}
-use Rattle.ens_object.specs.declared.object.Object.{Object}
-use Rattle.abstract_protocol.specs.Numbers.{epoch_number}
-use Rattle.quorum_round.specs.declared.round.Round.{Round}
+use Rattle.stored_formats.specs.declared.object.Object.{Object}
+use Rattle.protocol_laws.specs.Numbers.{epoch_number}
+use Rattle.quorums.specs.declared.round.Round.{Round}
 use Rattle.call_table.specs.Calls.{running}
 use Rattle.call_table.specs.Rows.{row_at}
 use Rattle.call_table.specs.declared.row.Found.{Found}
@@ -18,11 +18,11 @@ use Rattle.call_table.specs.declared.row.Stage.{Stage}
 use Rattle.call_table.specs.declared.row.Stage.TheVariants as stages
 use Rattle.call_table.specs.declared.table.CallTable.{CallTable}
 use Rattle.call_table.specs.declared.waiting.Waiting.{Waiting}
-use Rattle.leader_words.specs.declared.out.AnswerOut.{AnswerOut}
-use Rattle.leading.specs.declared.leader.Leader.{Leader}
-use Rattle.leading.specs.declared.pending.Pending.{Pending}
-use Rattle.leading.specs.declared.pending.Pending.TheVariants as tasks
-use Rattle.leader_laws.specs.Tables as theory
+use Rattle.leader_output.specs.declared.out.AnswerOut.{AnswerOut}
+use Rattle.leader.specs.declared.leader.Leader.{Leader}
+use Rattle.leader.specs.declared.pending.Pending.{Pending}
+use Rattle.leader.specs.declared.pending.Pending.TheVariants as tasks
+use Rattle.role_laws.specs.Tables as theory
 
 -- the number of a version
 abbrev pub rank : Version → ℕ

@@ -1,6 +1,29 @@
 ghost use Rattle.std.specs.Prelude.{ℕ, List};
-ghost use Rattle.abstract_protocol.specs.Protocol.{Step, IsRun, state_after};
-ghost use Rattle.leader_refinement.specs.Laws.{LeadersBegin, LeadersLeave, LeadersAreSeen, KeysChange, TicksPass, CallsJoin, CallsStart, ReadsStart, ReadsCount, RepliesAreRead, WritesGoOut, RewritesGoOut, ChecksBegin, ChecksCount, TasksApply, PutsGoIn, PutsAreStored, PutsCount, NextIsSought, StepsKeep, AcksAreShown, FitsStay};
+ghost use Rattle.protocol_laws.specs.Protocol.{Step, IsRun, state_after};
+ghost use Rattle.leader_refinement.specs.Laws.{
+  LeadersBegin,
+  LeadersLeave,
+  LeadersAreSeen,
+  KeysChange,
+  TicksPass,
+  CallsJoin,
+  CallsStart,
+  ReadsStart,
+  ReadsCount,
+  RepliesAreRead,
+  WritesGoOut,
+  RewritesGoOut,
+  ChecksBegin,
+  ChecksCount,
+  TasksApply,
+  PutsGoIn,
+  PutsAreStored,
+  PutsCount,
+  NextIsSought,
+  StepsKeep,
+  AcksAreShown,
+  FitsStay,
+};
 
 /// In each state of a run a leader that begins is a leader of the theory, and each of these rules is a
 /// list of moves of the theory, or the leader steps down. The clauses are in the order of the rules 5

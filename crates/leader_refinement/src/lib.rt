@@ -1,6 +1,6 @@
 //! The rules of a leader of the program are moves of the leader of the theory.
 //!
-//! `specs/Seen` gives the leader of the program (`leading`) as a leader of the theory (`leader_laws`):
+//! `specs/Seen` gives the leader of the program (`leader`) as a leader of the theory (`role_laws`):
 //! its epoch as a number, its seat with the answers that it owes, and for each key what is known, the
 //! stage of the running call, and the calls that wait. A task for the next rule is seen as the stage
 //! that it leads to. `specs/Follows` says what the answer of a rule has to agree with: the steps of

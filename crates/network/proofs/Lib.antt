@@ -12,3 +12,5 @@ pub mod Oldest
 pub mod Among
 pub mod Bounds
 pub mod Queued
+pub mod Lookups
+pub mod IndexNumbers

@@ -24,11 +24,11 @@ cleared_is_lost sent waits lines from to place may queued ends here =
     by true k waiting = ap not (is_in_line sent waits lines may queued from to place ends here k waiting)
     by false k settled = refl
 
--- the front of a line without these numbers still waits
-front_other : (waits : List Bool) (gone ns : List ℕ) → ((k : ℕ) → is_in ns k ≡ true → is_in gone k ≡ false) → FrontWaits waits ns → FrontWaits (cleared waits gone) ns
-front_other waits gone [] out front = tt
-front_other waits gone (k ∷ ns) out front =
-    flag_cleared waits gone k ∙ and_from _ _ front (not_from_false _ (out k (first_in k ns)))
+-- the prefix of a line without these numbers still waits
+prefix_other : (waits : List Bool) (gone ns : List ℕ) → ((k : ℕ) → is_in ns k ≡ true → is_in gone k ≡ false) → FrontWaits waits ns → FrontWaits (cleared waits gone) ns
+prefix_other waits gone [] out prefix = tt
+prefix_other waits gone (k ∷ ns) out prefix =
+    flag_cleared waits gone k ∙ and_from _ _ prefix (not_from_false _ (out k (first_in k ns)))
 
 module _ (sent : List Frame) (waits : List Bool) (old new : List (List ℕ)) (place : ℕ) (queued : AreInLine sent waits old) (emptied : Changes old new place (λ ns. [])) where
   was_in : (p k : ℕ) → is_in (line new p) k ≡ true → is_in (line old p) k ≡ true
@@ -47,5 +47,5 @@ module _ (sent : List Frame) (waits : List Bool) (old new : List (List ℕ)) (pl
     own = λ p k there. queued.own p k (was_in p k there);
     held = λ k g at waiting. let parts = and_parts _ _ (sym (flag_cleared waits (line old place) k) ∙ waiting) in stays_in (line_of g) k (not-true _ parts.1) (queued.held k g at parts.0);
     ascending = λ p. subst Ascends (sym (emptied p)) (cond_both (p == place) _ _ Ascends (λ same. tt) (λ other. queued.ascending p));
-    front = λ p. subst (FrontWaits (cleared waits (line old place))) (sym (emptied p)) (cond_both (p == place) _ _ (FrontWaits (cleared waits (line old place))) (λ same. tt) (λ other. front_other waits (line old place) (line old p) (out_of p other) (queued.front p)));
+    prefix = λ p. subst (FrontWaits (cleared waits (line old place))) (sym (emptied p)) (cond_both (p == place) _ _ (FrontWaits (cleared waits (line old place))) (λ same. tt) (λ other. prefix_other waits (line old place) (line old p) (out_of p other) (queued.prefix p)));
   }

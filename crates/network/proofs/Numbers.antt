@@ -56,16 +56,16 @@ module _ (waits : List Bool) where
     by true is later = is
     by false is later = later
 
-pub front_in : (ns : List ℕ) (n : ℕ) → 0 < length ns → n ≡ slice_index_or ns 0 n → is_in ns n ≡ true
-front_in [] n some front = absurd (omega arith)
-front_in (k ∷ ns) n some front = or_left _ _ (eq-eqb n k front)
+pub prefix_in : (ns : List ℕ) (n : ℕ) → 0 < length ns → n ≡ slice_index_or ns 0 n → is_in ns n ≡ true
+prefix_in [] n some prefix = absurd (omega arith)
+prefix_in (k ∷ ns) n some prefix = or_left _ _ (eq-eqb n k prefix)
 
 pub behind_in : (ns : List ℕ) (n : ℕ) → is_in (drop 1 ns) n ≡ true → is_in ns n ≡ true
 behind_in [] n there = there
 behind_in (k ∷ ns) n there = or_right _ _ there
 
 -- a number at the front that does not wait is skipped
-pub skip_front : (waits : List Bool) (ns : List ℕ) (n : ℕ) → n ≡ slice_index_or ns 0 n → slice_index_or waits n false ≡ false → from_waiting waits (drop 1 ns) ≡ from_waiting waits ns
-skip_front waits [] n front settled = refl
-skip_front waits (k ∷ ns) n front settled =
-    sym (cond-false _ _ _ (ap (λ (i : ℕ). slice_index_or waits i false) (sym front) ∙ settled))
+pub skip_prefix : (waits : List Bool) (ns : List ℕ) (n : ℕ) → n ≡ slice_index_or ns 0 n → slice_index_or waits n false ≡ false → from_waiting waits (drop 1 ns) ≡ from_waiting waits ns
+skip_prefix waits [] n prefix settled = refl
+skip_prefix waits (k ∷ ns) n prefix settled =
+    sym (cond-false _ _ _ (ap (λ (i : ℕ). slice_index_or waits i false) (sym prefix) ∙ settled))

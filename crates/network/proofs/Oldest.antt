@@ -1,4 +1,4 @@
--- The front of a line is the oldest message that waits from its sender to its receiver.
+-- The prefix of a line is the oldest message that waits from its sender to its receiver.
 use Rattle.std.proofs.Common.{◌≡◌, ◌==◌, ◌&&◌, refl, ap, sym, ◌∙◌, arith, subst, ℕ, Bool, true, false, List, [], ◌∷◌, Option, None, Some}
 use Rattle.ens_base.specs.Lists.{is_in}
 use Rattle.std.specs.Prelude.{All, slice_get, slice_index_or}
@@ -41,8 +41,8 @@ module _ (sent : List Frame) (waits : List Bool) (lines : List (List ℕ)) (may 
   absent n out = waits_in_line n ∙ and_right _ _ out
 
   pub front_is_oldest : slice_get (line lines place) 0 ≡ oldest (goes from to) (mail_in sent waits)
-  front_is_oldest = by (line lines place) refl (queued.ascending place) (queued.front place) where
+  front_is_oldest = by (line lines place) refl (queued.ascending place) (queued.prefix place) where
     by : (ns : List ℕ) → line lines place ≡ ns → Ascends ns → FrontWaits waits ns → slice_get ns 0 ≡ oldest (goes from to) (mail_in sent waits)
-    by [] is ascending front = sym (least_none (goes from to) sent waits (λ n. absent n (ap (λ (ns : List ℕ). is_in ns n) is)))
-    by (k ∷ ns) is ascending front =
-        sym (least_found (goes from to) sent waits k (waits_in_line k ∙ and_from _ _ front (ap (λ (ms : List ℕ). is_in ms k) is ∙ first_in k ns)) (λ n less. absent n (ap (λ (ms : List ℕ). is_in ms n) is ∙ before_first k ns n ascending less)))
+    by [] is ascending prefix = sym (least_none (goes from to) sent waits (λ n. absent n (ap (λ (ns : List ℕ). is_in ns n) is)))
+    by (k ∷ ns) is ascending prefix =
+        sym (least_found (goes from to) sent waits k (waits_in_line k ∙ and_from _ _ prefix (ap (λ (ms : List ℕ). is_in ms k) is ∙ first_in k ns)) (λ n less. absent n (ap (λ (ms : List ℕ). is_in ms n) is ∙ before_first k ns n ascending less)))

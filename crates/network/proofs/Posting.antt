@@ -30,12 +30,12 @@ own_below sent place ns own n there = by (slice_get sent n) refl (own n there) w
   by (Some f) at is = slice_get_within sent n f at
 
 FrontWaits-stays : (waits : List Bool) (now : Bool) (ns : List ℕ) → FrontWaits waits ns → FrontWaits (waits ++ now ∷ []) ns
-FrontWaits-stays waits now [] front = tt
-FrontWaits-stays waits now (n ∷ ns) front = flag_stays waits now n front
+FrontWaits-stays waits now [] prefix = tt
+FrontWaits-stays waits now (n ∷ ns) prefix = flag_stays waits now n prefix
 
 FrontWaits-push : (waits : List Bool) (n : ℕ) (ns : List ℕ) → length waits ≡ n → FrontWaits waits ns → FrontWaits (waits ++ true ∷ []) (ns ++ n ∷ [])
-FrontWaits-push waits n [] long front = get_or_push waits true false n long
-FrontWaits-push waits n (k ∷ ns) long front = flag_stays waits true k front
+FrontWaits-push waits n [] long prefix = get_or_push waits true false n long
+FrontWaits-push waits n (k ∷ ns) long prefix = flag_stays waits true k prefix
 
 module _ (sent : List Frame) (waits : List Bool) (old new : List (List ℕ)) (f : Frame) (place n : ℕ) (queued : AreInLine sent waits old) (last : n ≡ length sent) (mail : length waits ≡ length sent) (here : place ≡ line_of f) (pushed : Changes old new place (λ ns. ns ++ n ∷ [])) where
   -- the lines have one number more
@@ -80,5 +80,5 @@ module _ (sent : List Frame) (waits : List Bool) (old new : List (List ℕ)) (f 
     own = own_more;
     held = held_more;
     ascending = λ p. subst Ascends (sym (pushed p)) (cond_both (p == place) _ _ Ascends (λ same. Ascends-push (line old p) n (queued.ascending p) (λ k there. subst (λ (i : ℕ). k < i) (sym last) (own_below sent p (line old p) (queued.own p) k there))) (λ other. queued.ascending p));
-    front = λ p. subst (FrontWaits (waits ++ true ∷ [])) (sym (pushed p)) (cond_both (p == place) _ _ (FrontWaits (waits ++ true ∷ [])) (λ same. FrontWaits-push waits n (line old p) (omega arith) (queued.front p)) (λ other. FrontWaits-stays waits true (line old p) (queued.front p)));
+    prefix = λ p. subst (FrontWaits (waits ++ true ∷ [])) (sym (pushed p)) (cond_both (p == place) _ _ (FrontWaits (waits ++ true ∷ [])) (λ same. FrontWaits-push waits n (line old p) (omega arith) (queued.prefix p)) (λ other. FrontWaits-stays waits true (line old p) (queued.prefix p)));
   }

@@ -25,7 +25,7 @@ empty_in_line lines empty = record {
   own = λ p k there. absurd (both_ways _ (ap (λ (ns : List ℕ). is_in ns k) (empty p)) there);
   held = λ k f at waiting. absurd (none-some f at);
   ascending = λ p. subst Ascends (sym (empty p)) tt;
-  front = λ p. subst (FrontWaits []) (sym (empty p)) tt;
+  prefix = λ p. subst (FrontWaits []) (sym (empty p)) tt;
 }
 
 -- nothing was sent

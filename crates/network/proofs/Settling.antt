@@ -12,11 +12,11 @@ use Rattle.network.specs.Representation.{AreInLine}
 use Rattle.network.proofs.Numbers.{first_in, skip_from, skip_keeps, Ascends-skip, FrontWaits-skip}
 use Rattle.network.proofs.MailLaws.{flag_settled}
 
--- the front of a line without the settled message still waits
-front_other : (waits : List Bool) (n : ℕ) (ns : List ℕ) → (is_in ns n ≡ true → ⊥) → FrontWaits waits ns → FrontWaits (slice_set waits n false) ns
-front_other waits n [] out front = tt
-front_other waits n (k ∷ ns) out front =
-    get_or-set_other waits n k false false (λ same. out (ap (is_in (k ∷ ns)) (sym same) ∙ first_in k ns)) ∙ front
+-- the prefix of a line without the settled message still waits
+prefix_other : (waits : List Bool) (n : ℕ) (ns : List ℕ) → (is_in ns n ≡ true → ⊥) → FrontWaits waits ns → FrontWaits (slice_set waits n false) ns
+prefix_other waits n [] out prefix = tt
+prefix_other waits n (k ∷ ns) out prefix =
+    get_or-set_other waits n k false false (λ same. out (ap (is_in (k ∷ ns)) (sym same) ∙ first_in k ns)) ∙ prefix
 
 module _ (sent : List Frame) (waits : List Bool) (old new : List (List ℕ)) (f : Frame) (place n : ℕ) (queued : AreInLine sent waits old) (at : slice_get sent n ≡ Some f) (here : place ≡ line_of f) (skipped : Changes old new place (from_waiting (slice_set waits n false))) where
   still_waits : (k : ℕ) → slice_index_or (slice_set waits n false) k false ≡ true → slice_index_or waits k false ≡ true
@@ -38,5 +38,5 @@ module _ (sent : List Frame) (waits : List Bool) (old new : List (List ℕ)) (f 
     own = λ p k there. queued.own p k (was_in p k there);
     held = λ k g is waiting. stays_in (line_of g) k waiting (queued.held k g is (still_waits k waiting));
     ascending = λ p. subst Ascends (sym (skipped p)) (cond_both (p == place) _ _ Ascends (λ same. Ascends-skip (slice_set waits n false) (line old p) (queued.ascending p)) (λ other. queued.ascending p));
-    front = λ p. subst (FrontWaits (slice_set waits n false)) (sym (skipped p)) (cond_both (p == place) _ _ (FrontWaits (slice_set waits n false)) (λ same. FrontWaits-skip (slice_set waits n false) (line old p)) (λ other. front_other waits n (line old p) (out_of p other) (queued.front p)));
+    prefix = λ p. subst (FrontWaits (slice_set waits n false)) (sym (skipped p)) (cond_both (p == place) _ _ (FrontWaits (slice_set waits n false)) (λ same. FrontWaits-skip (slice_set waits n false) (line old p)) (λ other. prefix_other waits n (line old p) (out_of p other) (queued.prefix p)));
   }

@@ -1,3 +1,4 @@
 pub mod Mail
 pub mod Lines
 pub mod Representation
+pub mod Indexes

@@ -11,7 +11,7 @@ line_place from to = from * 32 + to
 abbrev pub line_of : Frame → ℕ
 line_of f = line_place f.from f.to
 
--- the numbers in the line at this place, the front first
+-- the numbers in the line at this place, the prefix first
 abbrev pub line : List (List ℕ) → ℕ → List ℕ
 line lines place = slice_index_or lines place []
 

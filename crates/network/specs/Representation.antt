@@ -15,12 +15,12 @@ abbrev pub IsBelow : ℕ → Frame → Type 0
 IsBelow bound f = (f.from < bound) × (f.to < bound)
 
 -- the lines have the waiting messages: each line has only numbers of its own messages, in ascending
--- order, and all of those that wait, and the message at its front waits
+-- order, and all of those that wait, and the message at its prefix waits
 pub record AreInLine (sent : List Frame) (waits : List Bool) (lines : List (List ℕ)) : Type 0 where
   pub own : (place n : ℕ) → is_in (line lines place) n ≡ true → option_map line_of (slice_get sent n) ≡ Some place
   pub held : (n : ℕ) (f : Frame) → slice_get sent n ≡ Some f → slice_index_or waits n false ≡ true → is_in (line lines (line_of f)) n ≡ true
   pub ascending : (place : ℕ) → Ascends (line lines place)
-  pub front : (place : ℕ) → FrontWaits waits (line lines place)
+  pub prefix : (place : ℕ) → FrontWaits waits (line lines place)
 
 -- the same, as one word
 unfoldable pub IsQueued : List Frame → List Bool → List (List ℕ) → Type 0

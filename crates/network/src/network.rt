@@ -21,7 +21,7 @@ pub struct Network {
     /// For each message whether it waits.
     waiting: Vec<bool>,
     /// The numbers of the waiting messages, in one line for each sender and receiver, the oldest at
-    /// the front. Behind the front there may also be messages that no longer wait.
+    /// the prefix. Behind the prefix there may also be messages that no longer wait.
     lines: Lines,
     /// Above the number of every sender and receiver so far, and at most 32.
     bound: u32,

@@ -2,13 +2,13 @@
 use Rattle.std.specs.Prelude.{Option, Some, None, if◌then◌else◌}
 use Rattle.std.proofs.Common.{◌≡◌, ◌≤◌, ◌++◌, ◌∷◌, [], ℕ, Bool, true, false, List, Result, inl, inr, ◌∙◌, ap, arith}
 use Rattle.ens_base.proofs.Causes.{rose_later, same_count}
-use Rattle.ens_hashing.specs.Hashing.{Book}
-use Rattle.ens_outside.specs.Stores.{BackendCall, BackendAnswer, NodeCall, NodeAnswer}
-use Rattle.ens_outside.specs.declared.errors.StoreError.{StoreError}
+use Rattle.hash_book.specs.Hashing.{Book}
+use Rattle.environment.specs.Stores.{BackendCall, BackendAnswer, NodeCall, NodeAnswer}
+use Rattle.environment.specs.declared.errors.StoreError.{StoreError}
 use Rattle.fact_store.specs.Keeping.{KeeperCall, KeeperAnswer}
 use Rattle.fact_store.specs.declared.error.KeepError.{KeepError}
-use Rattle.peer_fact.specs.declared.error.FactError.{FactError}
-use Rattle.peer_fact.specs.declared.saved.SavedFact.{SavedFact}
+use Rattle.stored_formats.specs.declared.fact_error.FactError.{FactError}
+use Rattle.stored_formats.specs.declared.saved.SavedFact.{SavedFact}
 use Rattle.register_model.specs.declared.note.Note.{Note}
 use Rattle.step_plans.specs.Calls.{Call, Load, Save, FreshTree, OpenTree, Root, Find, Enter, ScanTree, ReadNode, Install, Fetch, Put, Hash, AnswerOf}
 use Rattle.step_plans.specs.Plans.{Plan, Done, Say, Ask, Out, Ending, Stopped, Runs, Follows}
@@ -18,8 +18,8 @@ use Rattle.synctree.specs.declared.tree.Tree.{Tree}
 use Rattle.tree_node.specs.declared.body.Scan.{Scan}
 use Rattle.tree_node.specs.declared.version.TreeVersion.{TreeVersion}
 use Rattle.tree_node.specs.declared.version.TreeVersion.TheVariants.{One, Two}
-use Rattle.peer_plan.specs.Kept.{IsStepCall, IsCallError}
-use Rattle.peer_plan.specs.Starts.{IsStartError, start_of, saves_opening, seals_opening, opened, continued, is_whole, migrated, reseals_if, scanned, continued_in}
+use Rattle.peer_spec.specs.Kept.{IsStepCall, IsCallError}
+use Rattle.peer_spec.specs.Starts.{IsStartError, start_of, saves_opening, seals_opening, opened, continued, is_whole, migrated, reseals_if, scanned, continued_in}
 use Rattle.peer_stores.specs.Stores.{stores_do, stores_refuse, FactsAlone, TreeLater, IsTreeError, AreLater, SomeRose, IsCause}
 use Rattle.peer_state.specs.declared.state.Mode.{Mode}
 use Rattle.peer_state.specs.declared.state.State.{State}

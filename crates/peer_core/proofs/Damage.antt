@@ -1,20 +1,20 @@
 -- The answers of a peer's stores tell of damage only at positions of the tree.
 use Rattle.std.proofs.Common.{ℕ, List, Option, Result}
-use Rattle.ens_hashing.specs.Hashing.{Book}
-use Rattle.ens_outside.specs.Stores.{BackendCall, BackendAnswer, NodeCall, NodeAnswer}
+use Rattle.hash_book.specs.Hashing.{Book}
+use Rattle.environment.specs.Stores.{BackendCall, BackendAnswer, NodeCall, NodeAnswer}
 use Rattle.fact_store.specs.Keeping.{KeeperCall, KeeperAnswer}
-use Rattle.peer_fact.specs.declared.error.FactError.{FactError}
-use Rattle.peer_fact.specs.declared.saved.SavedFact.{SavedFact}
+use Rattle.stored_formats.specs.declared.fact_error.FactError.{FactError}
+use Rattle.stored_formats.specs.declared.saved.SavedFact.{SavedFact}
 use Rattle.step_plans.specs.Calls.{Call, Load, Save, FreshTree, OpenTree, Root, Find, Enter, ScanTree, ReadNode, Install, Fetch, Put, Hash, AnswerOf}
 use Rattle.step_plans.specs.declared.walked.Walked.TheVariants.{Reached, Broken as Ended}
 use Rattle.tree_node.specs.declared.version.TreeVersion.TheVariants.{Two}
 use Rattle.synctree.specs.Trees.{get_plan, insert_plan}
-use Rattle.tree_maps.specs.Sixteen.{form_of}
-use Rattle.peer_plan.specs.Kept.{IsSound}
-use Rattle.peer_plan.specs.TreeCalls.{position_plan}
+use Rattle.synctree.specs.Sixteen.{form_of}
+use Rattle.peer_spec.specs.Kept.{IsSound}
+use Rattle.peer_spec.specs.TreeCalls.{position_plan}
 use Rattle.peer_stores.specs.Stores.{stores_do}
 use Rattle.peer_stores.specs.declared.stores.Stores.{Stores}
-use Rattle.peer_plan.proofs.Inside.{walked_inside, get_inside, insert_inside, position_inside}
+use Rattle.peer_spec.proofs.Inside.{walked_inside, get_inside, insert_inside, position_inside}
 
 module _ {B N F H : Type 0} (gives : B → (call : BackendCall) → BackendAnswer call → B → Type 0) (b : B → ℕ) (reads : N → (call : NodeCall) → NodeAnswer call → N → Type 0)
     (tops : N → Option (Option (List ℕ))) (n : N → ℕ) (tells : F → (call : KeeperCall) → KeeperAnswer call → F → Type 0) (kept : F → Option (Result SavedFact FactError)) (f : F → ℕ)

@@ -2,25 +2,25 @@
 use Rattle.std.specs.Prelude.{IfErr, Option}
 use Rattle.std.proofs.Common.{◌≡◌, ℕ, true, List, Result, Ok, Err, subst}
 use Rattle.ens_base.specs.View.{IsPeer}
-use Rattle.ens_hashing.specs.Hashing.{Book}
-use Rattle.ens_outside.specs.Stores.{BackendCall, BackendAnswer, NodeCall, NodeAnswer}
-use Rattle.ens_outside.specs.declared.errors.StoreError.{StoreError}
+use Rattle.hash_book.specs.Hashing.{Book}
+use Rattle.environment.specs.Stores.{BackendCall, BackendAnswer, NodeCall, NodeAnswer}
+use Rattle.environment.specs.declared.errors.StoreError.{StoreError}
 use Rattle.fact_store.specs.Keeping.{KeeperCall, KeeperAnswer}
 use Rattle.fact_store.specs.declared.error.KeepError.{KeepError}
-use Rattle.peer_fact.specs.declared.error.FactError.{FactError}
-use Rattle.peer_fact.specs.declared.saved.SavedFact.{SavedFact}
+use Rattle.stored_formats.specs.declared.fact_error.FactError.{FactError}
+use Rattle.stored_formats.specs.declared.saved.SavedFact.{SavedFact}
 use Rattle.step_plans.specs.Steps.{Steps}
 use Rattle.step_plans.specs.declared.error.PeerError.{PeerError}
 use Rattle.step_plans.specs.declared.error.PeerError.TheVariants as errors
 use Rattle.step_plans.specs.declared.outbox.Outbox.{Outbox}
 use Rattle.peer_state.specs.Ages.{IsYoung, is_young}
-use Rattle.peer_plan.specs.Drives.{step_of, MayCome}
-use Rattle.peer_plan.specs.Kept.{IsCallError, IsStepError}
+use Rattle.peer_spec.specs.Drives.{step_of, MayCome}
+use Rattle.peer_spec.specs.Kept.{IsCallError, IsStepError}
 use Rattle.peer_stores.specs.Stores.{stores_do, stores_refuse, IsCause}
 use Rattle.peer_state.specs.declared.event.Event.{Event}
 use Rattle.peer_state.specs.declared.state.State.{State}
 use Rattle.peer_stores.specs.declared.stores.Stores.{Stores}
-use Rattle.peer_plan.proofs.Aging.{steps_young}
+use Rattle.peer_spec.proofs.Aging.{steps_young}
 use Rattle.peer_core.proofs.Counts.{stopped_cause, stopped_only}
 use Rattle.peer_state.proofs.Young.{young}
 

@@ -1,14 +1,14 @@
 ghost use Rattle.std.specs.Prelude.{◌≡◌, ◌↔◌, true, false};
 ghost use Rattle.ens_base.specs.View.{IsPeer};
 ghost use Rattle.peer_state.specs.Ages.{is_young};
-ghost use Rattle.peer_plan.specs.Kept.{IsOwn};
-ghost use Rattle.peer_plan.specs.Own.{own_props};
+ghost use Rattle.peer_spec.specs.Kept.{IsOwn};
+ghost use Rattle.peer_spec.specs.Own.{own_props};
 ghost use Rattle.peer_state.specs.NoAllocation.{IsSteady};
 
 use ens_base::{PeerId, View};
-use ens_hashing::Hasher16;
-use ens_outside::{Backend, NodeStore};
+use environment::{Backend, NodeStore};
 use fact_store::FactKeeper;
+use hash_book::Hasher16;
 use peer_machine::{Machine, start};
 use peer_state::{Event, Mode, State};
 use peer_stores::Stores;
@@ -52,11 +52,11 @@ impl<B: Backend, N: NodeStore, F: FactKeeper> Peer<B, N, F> {
     ghost use Rattle.step_plans.specs.Outboxes.{out_of, room, spare};
     ghost use Rattle.step_plans.specs.Plans.{Finished, Stopped, Runs, nothing};
     ghost use Rattle.step_plans.specs.Steps.{Steps};
-    ghost use Rattle.peer_plan.specs.Drives.{MayCome, step_of};
-    ghost use Rattle.peer_plan.specs.Kept.{AllMayGo, IsStepError};
+    ghost use Rattle.peer_spec.specs.Drives.{MayCome, step_of};
+    ghost use Rattle.peer_spec.specs.Kept.{AllMayGo, IsStepError};
     ghost use Rattle.peer_state.specs.Moves.{waits};
     ghost use Rattle.peer_state.specs.NoAllocation.{IsAllocationFree};
-    ghost use Rattle.peer_plan.specs.Starts.{IsStartError, start_of};
+    ghost use Rattle.peer_spec.specs.Starts.{IsStartError, start_of};
     ghost use Rattle.peer_stores.specs.Stores.{IsCause, stores_do, stores_refuse};
 
     /// Rule 1: starts the peer `me`, 1 to 31, on its stores. If they keep no fact, the peer saves
@@ -84,8 +84,16 @@ impl<B: Backend, N: NodeStore, F: FactKeeper> Peer<B, N, F> {
     ) -> Result<Peer<B, N, F>, StartError<B, N, F>>
         requires { IsPeer me }
         ensures me { IfOk result (λ p. (p.me ≡ me) × (p.halted ≡ false)) }
-        ensures started { IfOk result (λ p. Runs (stores_do B.may_answer B.fault_count N.may_answer N.top_record N.fault_count F.may_answer F.kept F.fault_count H.kept H.clashes H.fulls) (stores_refuse B.may_refuse B.fault_count N.may_answer N.may_refuse N.top_record N.fault_count F.may_refuse F.kept F.fault_count H.kept H.clashes H.fulls) (start_of mode opening) (stores, hasher.old) [] (Finished p.machine.state nothing) (p.machine.stores, hasher.new) []) }
-        ensures stopped { IfErr result (λ r. Runs (stores_do B.may_answer B.fault_count N.may_answer N.top_record N.fault_count F.may_answer F.kept F.fault_count H.kept H.clashes H.fulls) (stores_refuse B.may_refuse B.fault_count N.may_answer N.may_refuse N.top_record N.fault_count F.may_refuse F.kept F.fault_count H.kept H.clashes H.fulls) (start_of mode opening) (stores, hasher.old) [] (Stopped r.error) (r.held, hasher.new) []) }
+        ensures started { IfOk result (λ p. Runs (stores_do B.may_answer B.fault_count N.may_answer N.top_record
+            N.fault_count F.may_answer F.kept F.fault_count H.kept H.clashes H.fulls)
+            (stores_refuse B.may_refuse B.fault_count N.may_answer N.may_refuse N.top_record N.fault_count
+            F.may_refuse F.kept F.fault_count H.kept H.clashes H.fulls) (start_of mode opening) (stores, hasher.old)
+            [] (Finished p.machine.state nothing) (p.machine.stores, hasher.new) []) }
+        ensures stopped { IfErr result (λ r. Runs (stores_do B.may_answer B.fault_count N.may_answer N.top_record
+            N.fault_count F.may_answer F.kept F.fault_count H.kept H.clashes H.fulls)
+            (stores_refuse B.may_refuse B.fault_count N.may_answer N.may_refuse N.top_record N.fault_count
+            F.may_refuse F.kept F.fault_count H.kept H.clashes H.fulls) (start_of mode opening) (stores, hasher.old)
+            [] (Stopped r.error) (r.held, hasher.new) []) }
         ensures untouched { IfErr result (λ r. r.held.backend ≡ stores.backend) }
         ensures causes { IfErr result (λ r. IsCause B.fault_count N.fault_count F.fault_count H.clashes H.fulls (stores, hasher.old) (r.held, hasher.new) r.error) }
         ensures only { IfErr result (λ r. IsStartError r.error) }
@@ -125,12 +133,20 @@ impl<B: Backend, N: NodeStore, F: FactKeeper> Peer<B, N, F> {
         out: &mut Outbox,
     ) -> Result<(), PeerError>
         requires { MayCome self.old.me event }
-        ensures took { (IsErrOf result PeerError.Halted → ⊥) → Steps (stores_do B.may_answer B.fault_count N.may_answer N.top_record N.fault_count F.may_answer F.kept F.fault_count H.kept H.clashes H.fulls) (stores_refuse B.may_refuse B.fault_count N.may_answer N.may_refuse N.top_record N.fault_count F.may_refuse F.kept F.fault_count H.kept H.clashes H.fulls) (step_of self.old.me event self.old.machine.state) (self.old.machine.stores, hasher.old) out.old result self.new.machine.state (self.new.machine.stores, hasher.new) out.new }
+        ensures took { (IsErrOf result PeerError.Halted → ⊥)
+            → Steps (stores_do B.may_answer B.fault_count N.may_answer N.top_record N.fault_count F.may_answer
+            F.kept F.fault_count H.kept H.clashes H.fulls)
+            (stores_refuse B.may_refuse B.fault_count N.may_answer N.may_refuse N.top_record N.fault_count
+            F.may_refuse F.kept F.fault_count H.kept H.clashes H.fulls)
+            (step_of self.old.me event self.old.machine.state) (self.old.machine.stores, hasher.old) out.old result
+            self.new.machine.state (self.new.machine.stores, hasher.new) out.new }
         ensures goes_on { OnOk result (self.new.halted ≡ false) }
         ensures halts { OnErr result (self.new.halted ≡ true) }
         ensures halted { IsErrOf result PeerError.Halted ↔ (self.old.halted ≡ true) }
         ensures still { IsErrOf result PeerError.Halted → (self.new ≡ self.old) × (out.new ≡ out.old) × (hasher.new ≡ hasher.old) }
-        ensures causes { (IsErrOf result PeerError.Halted → ⊥) → IfErr result (λ e. IsCause B.fault_count N.fault_count F.fault_count H.clashes H.fulls (self.old.machine.stores, hasher.old) (self.new.machine.stores, hasher.new) e) }
+        ensures causes { (IsErrOf result PeerError.Halted → ⊥)
+            → IfErr result (λ e. IsCause B.fault_count N.fault_count F.fault_count H.clashes H.fulls
+            (self.old.machine.stores, hasher.old) (self.new.machine.stores, hasher.new) e) }
         ensures only { IfErr result IsStepError }
         ensures one { IsAllocationFree event → length out.new.sends.items ≤ length out.old.sends.items + 1 }
         ensures no_allocation { IsAllocationFree event → waits self.old.machine.state.phase ≡ false → 1 ≤ spare out.old → ¬ IsErrOf result PeerError.Memory }

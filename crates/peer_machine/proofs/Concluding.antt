@@ -2,12 +2,12 @@
 use Rattle.std.proofs.Common.{◌≡◌, ℕ, Bool, false, List, [], Ok, refl, sym, ap, subst, ◌∙◌}
 use Rattle.std.proofs.lemmas.Bool.{true≢false}
 use Rattle.std.proofs.lemmas.List.{append-nil}
-use Rattle.leader_words.specs.declared.out.Outgoing.{Outgoing}
-use Rattle.peer_fact.specs.declared.fact.Fact.{Fact}
+use Rattle.leader_output.specs.declared.out.Outgoing.{Outgoing}
+use Rattle.stored_formats.specs.declared.fact.Fact.{Fact}
 use Rattle.phase_rows.specs.Rows.{silent}
 use Rattle.phase_rows.specs.declared.phase.Then.TheVariants as thens
-use Rattle.peer_plan.proofs.Parts.{driven_none}
-use Rattle.peer_plan.specs.Drives.{concluded, driven, most_turns, row_done}
+use Rattle.peer_spec.proofs.Parts.{driven_none}
+use Rattle.peer_spec.specs.Drives.{concluded, driven, most_turns, row_done}
 use Rattle.peer_state.specs.Rows.{changes, ended, has_begun, while_26}
 use Rattle.peer_state.specs.declared.state.ChangeState.{ChangeState}
 use Rattle.peer_state.specs.declared.state.ChangeState.TheVariants.{Settled, Wanted, Finishing}

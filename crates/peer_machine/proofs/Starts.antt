@@ -1,11 +1,11 @@
 -- How a start continues after a call of the stores.
 use Rattle.std.specs.Prelude.{Option, None}
 use Rattle.std.proofs.Common.{◌≡◌, ℕ, true, false, Bool, if◌then◌else◌, List, Result, Ok, Err, inr, subst, sym}
-use Rattle.peer_fact.specs.declared.saved.SavedFact.{SavedFact}
+use Rattle.stored_formats.specs.declared.saved.SavedFact.{SavedFact}
 use Rattle.step_plans.specs.Calls.{Call, Load, FreshTree, Root, AnswerOf}
 use Rattle.step_plans.specs.Plans.{Plan, Ask}
 use Rattle.step_plans.specs.declared.error.PeerError.{PeerError}
-use Rattle.peer_plan.specs.Starts.{Starts, start_of, saves_opening, seals_opening, opened}
+use Rattle.peer_spec.specs.Starts.{Starts, start_of, saves_opening, seals_opening, opened}
 use Rattle.peer_state.specs.declared.state.Mode.{Mode}
 use Rattle.peer_state.specs.declared.state.State.{State}
 

@@ -1,29 +1,28 @@
 ghost use Rattle.std.specs.Prelude.{Some, None};
 ghost use Rattle.step_plans.specs.Outboxes.{Grows};
-ghost use Rattle.leading.specs.Puts.{row_35_reply};
-ghost use Rattle.leading.specs.Rounds.{row_29_reply, row_33_reply};
-ghost use Rattle.leading.specs.Rules.{lead_row};
-ghost use Rattle.leading.specs.Starts.{row_27};
+ghost use Rattle.leader.specs.Puts.{row_35_reply};
+ghost use Rattle.leader.specs.Rounds.{row_29_reply, row_33_reply};
+ghost use Rattle.leader.specs.Rules.{lead_row};
+ghost use Rattle.leader.specs.Starts.{row_27};
 ghost use Rattle.peer_state.specs.Ages.{IsYoung};
-ghost use Rattle.peer_plan.specs.Drives.{owned, own_key, followed_up, lead_done, lead, reminded, led_in, get_replied, called};
+ghost use Rattle.peer_spec.specs.Drives.{owned, own_key, followed_up, lead_done, lead, reminded, led_in, get_replied, called};
 ghost use Rattle.peer_machine.specs.Outcomes.{Acts};
 ghost use Rattle.peer_state.specs.Rows.{changes};
 
 use crate::machine::Machine;
 use ens_base::{Entry, Epoch, Key, PeerId, Reply, Version, copy_entry};
-use ens_object::{BoxedObject, Object};
-use leader_words::{LeadError, LeadOut, Own};
-use peer_fact::{Change, Fact};
-use peer_plan::own_key;
+use leader_output::{LeadError, LeadOut, Own};
+use peer_spec::own_key;
 use peer_state::{CallIn, Phase};
 use phase_rows::{KeyRule, Seen, Then};
 use std::alloc::Global;
 use step_plans::{Outbox, PeerError, Store, Task, Tasks};
+use stored_formats::{BoxedObject, Change, Fact, Object};
 use wire_frames::Message;
 
 impl<S> Machine<S> {
     /// Asks the peer's own tree and backend for a rule of a leader.
-    #[tactic(auto, using(peer_plan::proofs::Parts::cut))]
+    #[tactic(auto, using(peer_spec::proofs::Parts::cut))]
     fn owned<H>(
         &mut self,
         hasher: &mut H,
@@ -43,7 +42,7 @@ impl<S> Machine<S> {
     }
 
     /// Applies what follows the messages and notes of a rule of a leader.
-    #[tactic(auto, using(peer_plan::proofs::Parts::cut))]
+    #[tactic(auto, using(peer_spec::proofs::Parts::cut))]
     fn follow_up<H>(
         &mut self,
         hasher: &mut H,
@@ -72,7 +71,7 @@ impl<S> Machine<S> {
     }
 
     /// Applies the whole row of a rule of a leader, and returns the tasks that follow.
-    #[tactic(auto, using(peer_plan::proofs::Parts::cut, step_plans::proofs::Parts::noted_runs))]
+    #[tactic(auto, using(peer_spec::proofs::Parts::cut, step_plans::proofs::Parts::noted_runs))]
     fn lead_done<H>(
         &mut self,
         hasher: &mut H,
@@ -104,7 +103,7 @@ impl<S> Machine<S> {
     }
 
     /// Runs a rule on a key, if the peer leads.
-    #[tactic(auto, using(peer_plan::proofs::Parts::cut))]
+    #[tactic(auto, using(peer_spec::proofs::Parts::cut))]
     #[inline(never)]
     pub(crate) fn key_done<H>(
         &mut self,
@@ -131,7 +130,7 @@ impl<S> Machine<S> {
     }
 
     /// Rule 29: counts a reply whose object the entry names.
-    #[tactic(auto, using(peer_plan::proofs::Parts::cut))]
+    #[tactic(auto, using(peer_spec::proofs::Parts::cut))]
     fn count_get_reply<H>(
         &mut self,
         hasher: &mut H,
@@ -147,7 +146,8 @@ impl<S> Machine<S> {
     ) -> Result<Tasks, PeerError>
     where
         S: Store<H>,
-        ensures acts { Acts S.does S.refuses (λ x o next. lead (row_29_reply from ballot round key.now entry object) me x.phase x o next) self.old hasher.old out.old result self.new hasher.new out.new }
+        ensures acts { Acts S.does S.refuses (λ x o next. lead (row_29_reply from ballot round key.now entry object)
+            me x.phase x o next) self.old hasher.old out.old result self.new hasher.new out.new }
         ensures grows { Grows out.old out.new }
     {
         match &mut self.state.phase {
@@ -162,7 +162,7 @@ impl<S> Machine<S> {
     }
 
     /// Rule 29: counts a GetReply at a leader.
-    #[tactic(auto, using(peer_plan::proofs::Parts::cut))]
+    #[tactic(auto, using(peer_spec::proofs::Parts::cut))]
     #[inline(never)]
     pub(crate) fn get_reply<H>(
         &mut self,
@@ -191,7 +191,7 @@ impl<S> Machine<S> {
     }
 
     /// Rule 35: counts a PutReply, if the peer leads.
-    #[tactic(auto, using(peer_plan::proofs::Parts::cut))]
+    #[tactic(auto, using(peer_spec::proofs::Parts::cut))]
     #[inline(never)]
     pub(crate) fn put_reply<H>(
         &mut self,
@@ -221,7 +221,7 @@ impl<S> Machine<S> {
     }
 
     /// Rule 33: counts a CheckReply, if the peer leads.
-    #[tactic(auto, using(peer_plan::proofs::Parts::cut))]
+    #[tactic(auto, using(peer_spec::proofs::Parts::cut))]
     #[inline(never)]
     pub(crate) fn check_reply<H>(
         &mut self,
@@ -248,7 +248,7 @@ impl<S> Machine<S> {
     }
 
     /// Rule 27: a leader takes a call.
-    #[tactic(auto, using(peer_plan::proofs::Parts::cut))]
+    #[tactic(auto, using(peer_spec::proofs::Parts::cut))]
     fn take_call<H>(
         &mut self,
         hasher: &mut H,
@@ -260,7 +260,9 @@ impl<S> Machine<S> {
     ) -> Result<Tasks, PeerError>
     where
         S: Store<H>,
-        ensures acts { Acts S.does S.refuses (λ x o next. lead (row_27 call.now.from call.now.id call.now.key call.now.command finishing) me x.phase x o next) self.old hasher.old out.old result self.new hasher.new out.new }
+        ensures acts { Acts S.does S.refuses (λ x o next. lead
+            (row_27 call.now.from call.now.id call.now.key call.now.command finishing) me x.phase x o next) self.old
+            hasher.old out.old result self.new hasher.new out.new }
         ensures grows { Grows out.old out.new }
     {
         match &mut self.state.phase {
@@ -280,7 +282,7 @@ impl<S> Machine<S> {
     }
 
     /// Rule 27: a call. A peer that does not lead answers `unavailable`.
-    #[tactic(auto, using(peer_plan::proofs::Parts::cut))]
+    #[tactic(auto, using(peer_spec::proofs::Parts::cut))]
     #[inline(never)]
     pub(crate) fn call<H>(
         &mut self,
@@ -305,7 +307,7 @@ impl<S> Machine<S> {
     }
 
     /// Rule 5: a tick of a leader. Its calls come first, and the rest once their keys have gone on.
-    #[tactic(auto, using(peer_plan::proofs::Parts::cut))]
+    #[tactic(auto, using(peer_spec::proofs::Parts::cut))]
     #[inline(never)]
     pub(crate) fn tick_leading<H>(
         &mut self,
@@ -336,7 +338,7 @@ impl<S> Machine<S> {
 
     /// Rule 5 (d) and (e), in a leader: sends each other member one message, and begins a change that is
     /// wanted.
-    #[tactic(auto, using(peer_plan::proofs::Parts::cut))]
+    #[tactic(auto, using(peer_spec::proofs::Parts::cut))]
     #[inline(never)]
     pub(crate) fn remind<H>(
         &mut self,

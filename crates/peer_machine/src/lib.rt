@@ -1,6 +1,6 @@
 //! The code that follows the plan of a step, over any stores.
 //!
-//! `peer_plan` has what a step and a start are as plans. `Machine::step` promises a run of the plan
+//! `peer_spec` has what a step and a start are as plans. `Machine::step` promises a run of the plan
 //! of a step over what the stores returned, and `start` one of the plan of a start: to its end, or
 //! to the point where an error stopped it. Out of memory may stop a run anywhere, and leaves the
 //! stores and the notes as they are at that point.

@@ -4,19 +4,19 @@ ghost use Rattle.step_plans.specs.Outboxes.{FitsIn, Grows};
 ghost use Rattle.step_plans.specs.Calls.{Root, Save};
 ghost use Rattle.step_plans.specs.Plans.{asked};
 ghost use Rattle.step_plans.specs.Saved.{with_seal};
-ghost use Rattle.peer_plan.specs.Drives.{performed, row_done, task_done, driven};
+ghost use Rattle.peer_spec.specs.Drives.{performed, row_done, task_done, driven};
 ghost use Rattle.peer_state.specs.Moves.{turned, turned_answers, ends_leading};
-ghost use Rattle.peer_plan.specs.Syncs.{saved, sealed, followed_on};
+ghost use Rattle.peer_spec.specs.Syncs.{saved, sealed, followed_on};
 ghost use Rattle.peer_state.specs.NoAllocation.{ends_step, EndsQuietly, IsFreeRow, IsFreeTask};
 ghost use Rattle.peer_machine.specs.Outcomes.{Acts};
 
 use ens_base::{Digest, PeerId};
-use peer_fact::{Change, Fact, SavedFact};
 use peer_state::State;
 use phase_rows::{PhaseOut, Seen, Then};
 use std::alloc::Global;
 use std::thread::Threads;
 use step_plans::{Outbox, PeerError, Store, Task, Tasks};
+use stored_formats::{Change, Fact, SavedFact};
 use wire_frames::Message;
 
 /// The state of a peer and its stores.
@@ -28,7 +28,7 @@ pub struct Machine<S> {
 
 impl<S> Machine<S> {
     /// Saves the fact with this seal.
-    #[tactic(auto, using(peer_plan::proofs::Parts::asked_did))]
+    #[tactic(auto, using(peer_spec::proofs::Parts::asked_did))]
     fn save_fact<H>(
         &mut self,
         hasher: &mut H,
@@ -50,7 +50,7 @@ impl<S> Machine<S> {
     }
 
     /// Asks for the root of the running tree.
-    #[tactic(auto, using(peer_plan::proofs::Parts::asked_did))]
+    #[tactic(auto, using(peer_spec::proofs::Parts::asked_did))]
     fn root<H>(&mut self, hasher: &mut H, out: &Outbox) -> Result<Option<Digest>, PeerError>
     where
         S: Store<H>,
@@ -61,7 +61,7 @@ impl<S> Machine<S> {
     }
 
     /// Saves the fact with the root of the tree as its seal, and both become those of the peer.
-    #[tactic(auto, using(peer_plan::proofs::Parts::cut))]
+    #[tactic(auto, using(peer_spec::proofs::Parts::cut))]
     pub(crate) fn seal<H>(
         &mut self,
         hasher: &mut H,
@@ -80,7 +80,7 @@ impl<S> Machine<S> {
     }
 
     /// Saves the fact with the peer's seal, if there is one.
-    #[tactic(auto, using(peer_plan::proofs::Parts::cut))]
+    #[tactic(auto, using(peer_spec::proofs::Parts::cut))]
     #[inline(never)]
     pub(crate) fn save<H>(
         &mut self,
@@ -107,7 +107,7 @@ impl<S> Machine<S> {
 
     /// Applies a row, except for what follows it: a leader steps down if asked, the fact is saved,
     /// and the message is sent.
-    #[tactic(auto, using(peer_plan::proofs::Parts::cut, peer_state::proofs::Quiet::still_quiet))]
+    #[tactic(auto, using(peer_spec::proofs::Parts::cut, peer_state::proofs::Quiet::still_quiet))]
     fn perform<H>(
         &mut self,
         hasher: &mut H,
@@ -137,7 +137,7 @@ impl<S> Machine<S> {
 
     /// Applies what follows the message of a row, with the sync that it begins or resumes. Returns the
     /// rule that runs next.
-    #[tactic(auto, using(peer_plan::proofs::Parts::cut))]
+    #[tactic(auto, using(peer_spec::proofs::Parts::cut))]
     fn turn<H, R: Threads + Sync>(
         &mut self,
         hasher: &mut H,
@@ -161,7 +161,7 @@ impl<S> Machine<S> {
     }
 
     /// Applies a row, with the sync that it begins or resumes. Returns the rule that runs next.
-    #[tactic(auto, using(peer_plan::proofs::Parts::cut))]
+    #[tactic(auto, using(peer_spec::proofs::Parts::cut))]
     pub(crate) fn row_done<H, R: Threads + Sync>(
         &mut self,
         hasher: &mut H,
@@ -186,7 +186,7 @@ impl<S> Machine<S> {
     }
 
     /// Runs the rule of one task, and returns the rules that its row names.
-    #[tactic(auto, using(peer_plan::proofs::Parts::cut))]
+    #[tactic(auto, using(peer_spec::proofs::Parts::cut))]
     pub(crate) fn task_done<H, R: Threads + Sync>(
         &mut self,
         hasher: &mut H,
@@ -227,7 +227,7 @@ impl<S> Machine<S> {
 
     /// Runs `tasks`, at most `turns` of them. The rules that a row names run before the tasks that
     /// were left. Returns the tasks that are left.
-    #[tactic(auto, using(peer_plan::proofs::Parts::cut))]
+    #[tactic(auto, using(peer_spec::proofs::Parts::cut))]
     pub(crate) fn drive<H, R: Threads + Sync>(
         &mut self,
         hasher: &mut H,

@@ -1,22 +1,22 @@
 ghost use Rattle.std.specs.Option.{is_some};
 ghost use Rattle.std.specs.Prelude.{◌≡◌, Some, None};
-ghost use Rattle.ens_object.specs.Objects.{object_spelling};
+ghost use Rattle.stored_formats.specs.Objects.{object_spelling};
 ghost use Rattle.step_plans.specs.Calls.{Find, Enter, Fetch, Put, Hash};
 ghost use Rattle.step_plans.specs.Plans.{asked};
 ghost use Rattle.peer_machine.specs.Outcomes.{Acts};
-ghost use Rattle.peer_plan.specs.Owns.{digested, read, kept, fetched, held, looked_at, looked, found, resealed, entered, written_as, written, confirmed_as, confirmed};
+ghost use Rattle.peer_spec.specs.Owns.{digested, read, kept, fetched, held, looked_at, looked, found, resealed, entered, written_as, written, confirmed_as, confirmed};
 
 use crate::machine::Machine;
 use ens_base::{Bytes, Digest, Entry, Key};
-use ens_object::{BoxedObject, Object, box_object};
-use kept_objects::{entry_of, matching};
-use peer_plan::{bytes_of, object_of, seen_at};
+use object_commands::{entry_of, matching};
+use peer_spec::{bytes_of, object_of, seen_at};
 use phase_rows::Seen;
 use std::alloc::Global;
 use step_plans::{Outbox, PeerError, Store, Walked};
+use stored_formats::{BoxedObject, Object, box_object};
 
 impl<S> Machine<S> {
-    #[tactic(auto, using(peer_plan::proofs::Parts::asked_did))]
+    #[tactic(auto, using(peer_spec::proofs::Parts::asked_did))]
     fn find<H>(
         &mut self,
         hasher: &mut H,
@@ -31,7 +31,7 @@ impl<S> Machine<S> {
         self.stores.find(hasher, alloc, key)
     }
 
-    #[tactic(auto, using(peer_plan::proofs::Parts::asked_did))]
+    #[tactic(auto, using(peer_spec::proofs::Parts::asked_did))]
     fn enter<H>(
         &mut self,
         hasher: &mut H,
@@ -46,7 +46,7 @@ impl<S> Machine<S> {
         self.stores.enter(hasher, alloc, entry)
     }
 
-    #[tactic(auto, using(peer_plan::proofs::Parts::asked_did))]
+    #[tactic(auto, using(peer_spec::proofs::Parts::asked_did))]
     fn fetch<H>(
         &mut self,
         hasher: &mut H,
@@ -61,7 +61,7 @@ impl<S> Machine<S> {
         self.stores.fetch(hasher, alloc, key)
     }
 
-    #[tactic(auto, using(peer_plan::proofs::Parts::asked_did))]
+    #[tactic(auto, using(peer_spec::proofs::Parts::asked_did))]
     fn put<H>(
         &mut self,
         hasher: &mut H,
@@ -77,7 +77,7 @@ impl<S> Machine<S> {
         self.stores.put(hasher, alloc, key, bytes)
     }
 
-    #[tactic(auto, using(peer_plan::proofs::Parts::asked_did))]
+    #[tactic(auto, using(peer_spec::proofs::Parts::asked_did))]
     fn hash<H>(
         &mut self,
         hasher: &mut H,
@@ -93,7 +93,7 @@ impl<S> Machine<S> {
     }
 
     /// Hashes the bytes, if they are an object.
-    #[tactic(auto, using(peer_plan::proofs::Parts::cut))]
+    #[tactic(auto, using(peer_spec::proofs::Parts::cut))]
     fn digest<H>(
         &mut self,
         hasher: &mut H,
@@ -116,7 +116,7 @@ impl<S> Machine<S> {
     }
 
     /// Decodes and hashes what the backend returned.
-    #[tactic(auto, using(peer_plan::proofs::Parts::cut))]
+    #[tactic(auto, using(peer_spec::proofs::Parts::cut))]
     fn read<H>(
         &mut self,
         hasher: &mut H,
@@ -139,7 +139,7 @@ impl<S> Machine<S> {
     }
 
     /// Returns the object that the backend keeps under the key, with the digest of its bytes.
-    #[tactic(auto, using(peer_plan::proofs::Parts::cut))]
+    #[tactic(auto, using(peer_spec::proofs::Parts::cut))]
     fn kept<H>(
         &mut self,
         hasher: &mut H,
@@ -157,7 +157,7 @@ impl<S> Machine<S> {
     }
 
     /// Rule 28: looks up the object of the key in the backend.
-    #[tactic(auto, using(peer_plan::proofs::Parts::cut))]
+    #[tactic(auto, using(peer_spec::proofs::Parts::cut))]
     pub(crate) fn fetched<H>(
         &mut self,
         hasher: &mut H,
@@ -174,7 +174,7 @@ impl<S> Machine<S> {
     }
 
     /// Looks up the object of an entry.
-    #[tactic(auto, using(peer_plan::proofs::Parts::cut))]
+    #[tactic(auto, using(peer_spec::proofs::Parts::cut))]
     fn held<H>(
         &mut self,
         hasher: &mut H,
@@ -203,7 +203,7 @@ impl<S> Machine<S> {
         }
     }
 
-    #[tactic(auto, using(peer_plan::proofs::Parts::cut))]
+    #[tactic(auto, using(peer_spec::proofs::Parts::cut))]
     fn looked_at<H>(
         &mut self,
         hasher: &mut H,
@@ -226,7 +226,7 @@ impl<S> Machine<S> {
     }
 
     /// Rules 21 and 29: looks up the entry and the object of the key.
-    #[tactic(auto, using(peer_plan::proofs::Parts::cut))]
+    #[tactic(auto, using(peer_spec::proofs::Parts::cut))]
     pub(crate) fn looked<H>(
         &mut self,
         hasher: &mut H,
@@ -244,7 +244,7 @@ impl<S> Machine<S> {
     }
 
     /// Rule 22: looks up the entry of the key.
-    #[tactic(auto, using(peer_plan::proofs::Parts::cut))]
+    #[tactic(auto, using(peer_spec::proofs::Parts::cut))]
     pub(crate) fn found<H>(
         &mut self,
         hasher: &mut H,
@@ -261,7 +261,7 @@ impl<S> Machine<S> {
     }
 
     /// Saves the fact of a peer with a seal again, with the root of the tree as its seal.
-    #[tactic(auto, using(peer_plan::proofs::Parts::cut))]
+    #[tactic(auto, using(peer_spec::proofs::Parts::cut))]
     fn reseal<H>(&mut self, hasher: &mut H, out: &Outbox) -> Result<(), PeerError>
     where
         S: Store<H>,
@@ -276,7 +276,7 @@ impl<S> Machine<S> {
 
     /// Puts the bytes of an object whose entry was entered, after the fact is saved in a peer with a
     /// seal.
-    #[tactic(auto, using(peer_plan::proofs::Parts::cut))]
+    #[tactic(auto, using(peer_spec::proofs::Parts::cut))]
     fn entered<H>(
         &mut self,
         hasher: &mut H,
@@ -302,7 +302,7 @@ impl<S> Machine<S> {
     }
 
     /// Writes the object, whose encoding these bytes are, its entry first.
-    #[tactic(auto, using(peer_plan::proofs::Parts::cut))]
+    #[tactic(auto, using(peer_spec::proofs::Parts::cut))]
     fn written_as<H>(
         &mut self,
         hasher: &mut H,
@@ -340,7 +340,7 @@ impl<S> Machine<S> {
     }
 
     /// Rules 22 and 35: writes the object.
-    #[tactic(auto, using(peer_plan::proofs::Parts::cut))]
+    #[tactic(auto, using(peer_spec::proofs::Parts::cut))]
     pub(crate) fn written<H>(
         &mut self,
         hasher: &mut H,
@@ -360,7 +360,7 @@ impl<S> Machine<S> {
     }
 
     /// Returns a copy of the object, whose encoding these bytes are, if the entry names it.
-    #[tactic(auto, using(peer_plan::proofs::Parts::cut))]
+    #[tactic(auto, using(peer_spec::proofs::Parts::cut))]
     fn confirmed_as<H>(
         &mut self,
         hasher: &mut H,
@@ -398,7 +398,7 @@ impl<S> Machine<S> {
     }
 
     /// Copies the object of a reply, if the entry of the reply names it.
-    #[tactic(auto, using(peer_plan::proofs::Parts::cut))]
+    #[tactic(auto, using(peer_spec::proofs::Parts::cut))]
     fn confirm<H>(
         &mut self,
         hasher: &mut H,
@@ -419,7 +419,7 @@ impl<S> Machine<S> {
     }
 
     /// Rule 29: returns a copy of the object of a reply, if the entry of the reply names it.
-    #[tactic(auto, using(peer_plan::proofs::Parts::cut))]
+    #[tactic(auto, using(peer_spec::proofs::Parts::cut))]
     pub(crate) fn confirmed<H>(
         &mut self,
         hasher: &mut H,

@@ -1,20 +1,32 @@
 ghost use Rattle.std.specs.Prelude.{◌≡◌, ℕ, true, [], IfOk};
 ghost use Rattle.peer_state.specs.Ages.{is_young};
-ghost use Rattle.peer_plan.specs.Kept.{IsOwn};
+ghost use Rattle.peer_spec.specs.Kept.{IsOwn};
 ghost use Rattle.peer_state.specs.NoAllocation.{IsSteady};
 ghost use Rattle.step_plans.specs.Calls.{Install, ScanTree};
 ghost use Rattle.step_plans.specs.Plans.{Ask};
 ghost use Rattle.tree_node.specs.declared.version.TreeVersion.TheVariants.{Two};
 ghost use Rattle.tree_node.specs.Entries.{AreAbove};
-ghost use Rattle.peer_plan.specs.Starts.{Starts, start_of, saves_opening, seals_opening, continued as continues, reseals, reseals_if, migrated, scanned as scans, continued_in as continues_in, opened as opens};
+ghost use Rattle.peer_spec.specs.Starts.{
+  Starts,
+  start_of,
+  saves_opening,
+  seals_opening,
+  continued as continues,
+  reseals,
+  reseals_if,
+  migrated,
+  scanned as scans,
+  continued_in as continues_in,
+  opened as opens,
+};
 
 use ens_base::{Digest, Entry, View};
-use peer_fact::{Change, Fact, SavedFact};
-use peer_plan::{first_state, is_whole};
+use peer_spec::{first_state, is_whole};
 use peer_state::{Mode, State};
 use std::alloc::Global;
 use std::thread::Threads;
 use step_plans::{PeerError, Store};
+use stored_formats::{Change, Fact, SavedFact};
 use tree_node::{Scan, TreeVersion};
 
 /// Saves the opening fact with this seal, and starts with it.

@@ -4,27 +4,26 @@ ghost use Rattle.wire_frames.specs.Messages.{Obeys};
 ghost use Rattle.step_plans.specs.Outboxes.{Grows, room, spare};
 ghost use Rattle.step_plans.specs.Steps.{Steps};
 ghost use Rattle.peer_state.specs.Ages.{IsYoung, is_young};
-ghost use Rattle.peer_plan.specs.Drives.{ticked, shown, got, after_put, put_done, put_in, delivered, first, responded, concluded, whole, step_of, MayCome, most_turns};
+ghost use Rattle.peer_spec.specs.Drives.{ticked, shown, got, after_put, put_done, put_in, delivered, first, responded, concluded, whole, step_of, MayCome, most_turns};
 ghost use Rattle.peer_state.specs.Moves.{waits};
 ghost use Rattle.peer_state.specs.NoAllocation.{IsAllocationFree, IsAllocationFreeMessage, IsSteady};
 ghost use Rattle.peer_machine.specs.Outcomes.{Acts};
-ghost use Rattle.peer_plan.specs.Owns.{looked, found};
+ghost use Rattle.peer_spec.specs.Owns.{looked, found};
 
 use crate::machine::Machine;
 use ens_base::{Epoch, Key, PeerId};
-use ens_object::Object;
-use following::is_served;
-use peer_fact::{Change, Fact};
-use peer_plan::after_put;
+use peer_spec::after_put;
 use peer_state::{Event, Phase};
 use phase_rows::{PhaseOut, PhaseRule, Seen, Then};
+use phase_rules::is_served;
 use std::alloc::Global;
 use std::thread::Threads;
 use step_plans::{Outbox, PeerError, Store, Task, Tasks};
+use stored_formats::{Change, Fact, Object};
 use wire_frames::Message;
 
 /// A number of tasks that no step reaches.
-#[tactic(auto, unfolding(peer_plan::specs::Drives::most_turns))]
+#[tactic(auto, unfolding(peer_spec::specs::Drives::most_turns))]
 fn most_turns() -> u64
     ensures { result ≡ most_turns }
 {
@@ -33,7 +32,7 @@ fn most_turns() -> u64
 
 impl<S> Machine<S> {
     /// Rules 2 to 5: a tick.
-    #[tactic(auto, using(peer_plan::proofs::Parts::cut))]
+    #[tactic(auto, using(peer_spec::proofs::Parts::cut))]
     fn tick<H, R: Threads + Sync>(
         &mut self,
         hasher: &mut H,
@@ -58,7 +57,7 @@ impl<S> Machine<S> {
     }
 
     /// Reads the path of the key by rule 21, if the request is served.
-    #[tactic(auto, using(peer_plan::proofs::Parts::cut))]
+    #[tactic(auto, using(peer_spec::proofs::Parts::cut))]
     fn show<H>(
         &mut self,
         hasher: &mut H,
@@ -79,7 +78,7 @@ impl<S> Machine<S> {
     }
 
     /// Reads the path of the key by rule 22, if the request is served.
-    #[tactic(auto, using(peer_plan::proofs::Parts::cut))]
+    #[tactic(auto, using(peer_spec::proofs::Parts::cut))]
     fn show_entry<H>(
         &mut self,
         hasher: &mut H,
@@ -100,7 +99,7 @@ impl<S> Machine<S> {
     }
 
     /// Rule 21: a leader asks what the peer has under a key.
-    #[tactic(auto, using(peer_plan::proofs::Parts::cut))]
+    #[tactic(auto, using(peer_spec::proofs::Parts::cut))]
     fn get<H, R: Threads + Sync>(
         &mut self,
         hasher: &mut H,
@@ -129,7 +128,7 @@ impl<S> Machine<S> {
     }
 
     /// Writes the object of a put, and answers.
-    #[tactic(auto, using(peer_plan::proofs::Parts::cut))]
+    #[tactic(auto, using(peer_spec::proofs::Parts::cut))]
     fn write_put<H, R: Threads + Sync>(
         &mut self,
         hasher: &mut H,
@@ -163,7 +162,7 @@ impl<S> Machine<S> {
     }
 
     /// Answers a put, after the object was written if the answer asks for that.
-    #[tactic(auto, using(peer_plan::proofs::Parts::cut))]
+    #[tactic(auto, using(peer_spec::proofs::Parts::cut))]
     fn put_done<H, R: Threads + Sync>(
         &mut self,
         hasher: &mut H,
@@ -190,7 +189,7 @@ impl<S> Machine<S> {
     }
 
     /// Rule 22: a leader asks the peer to write an object.
-    #[tactic(auto, using(peer_plan::proofs::Parts::cut))]
+    #[tactic(auto, using(peer_spec::proofs::Parts::cut))]
     fn put_in<H, R: Threads + Sync>(
         &mut self,
         hasher: &mut H,
@@ -217,7 +216,7 @@ impl<S> Machine<S> {
     }
 
     /// Applies the row for a message.
-    #[tactic(auto, using(peer_plan::proofs::Parts::cut))]
+    #[tactic(auto, using(peer_spec::proofs::Parts::cut))]
     fn deliver<H, R: Threads + Sync>(
         &mut self,
         hasher: &mut H,
@@ -276,7 +275,7 @@ impl<S> Machine<S> {
     }
 
     /// Applies the row for an event.
-    #[tactic(auto, using(peer_plan::proofs::Parts::cut))]
+    #[tactic(auto, using(peer_spec::proofs::Parts::cut))]
     fn first<H, R: Threads + Sync>(
         &mut self,
         hasher: &mut H,
@@ -311,7 +310,7 @@ impl<S> Machine<S> {
     }
 
     /// Applies the row for an event, and runs the rules that follow from it.
-    #[tactic(auto, using(peer_plan::proofs::Parts::cut))]
+    #[tactic(auto, using(peer_spec::proofs::Parts::cut))]
     fn respond<H, R: Threads + Sync>(
         &mut self,
         hasher: &mut H,
@@ -337,7 +336,7 @@ impl<S> Machine<S> {
 
     /// Rule 6: at the end of each step, a leader may end its epoch. A peer that changes no view has
     /// nothing to end.
-    #[tactic(auto, using(peer_plan::proofs::Parts::cut))]
+    #[tactic(auto, using(peer_spec::proofs::Parts::cut))]
     fn conclude<H, R: Threads + Sync>(
         &mut self,
         hasher: &mut H,
@@ -360,7 +359,7 @@ impl<S> Machine<S> {
     }
 
     /// Rule 26: the epoch of a leader may end.
-    #[tactic(auto, using(peer_plan::proofs::Parts::cut))]
+    #[tactic(auto, using(peer_spec::proofs::Parts::cut))]
     #[inline(never)]
     fn end_epoch<H, R: Threads + Sync>(
         &mut self,
@@ -383,7 +382,7 @@ impl<S> Machine<S> {
     }
 
     /// Takes a whole step.
-    #[tactic(auto, using(peer_plan::proofs::Parts::cut))]
+    #[tactic(auto, using(peer_spec::proofs::Parts::cut))]
     fn whole<H, R: Threads + Sync>(
         &mut self,
         hasher: &mut H,

@@ -9,30 +9,46 @@ ghost use Rattle.tree_node.specs.Positions.{IsPosition};
 ghost use Rattle.peer_state.specs.NoAllocation.{ends_step};
 ghost use Rattle.peer_machine.specs.Outcomes.{Acts};
 ghost use Rattle.peer_state.specs.Moves.{keeps_seal};
-ghost use Rattle.peer_plan.specs.Syncs.{sealed_if, and_sends, installed, accepted, accepted_in, end_sync, by_outcome, go_on, start_sync, resume_sync, followed_on, own_node, shown_node, needs_node, take_give, tree_give};
-ghost use Rattle.peer_plan.specs.Drives.{got_ask, in_tree};
-ghost use Rattle.peer_plan.specs.TreeCalls.{has_position};
-ghost use Rattle.sync_rule.specs.Syncs.{MayBeBuilt};
+ghost use Rattle.peer_spec.specs.Syncs.{
+  sealed_if,
+  and_sends,
+  installed,
+  accepted,
+  accepted_in,
+  end_sync,
+  by_outcome,
+  go_on,
+  start_sync,
+  resume_sync,
+  followed_on,
+  own_node,
+  shown_node,
+  needs_node,
+  take_give,
+  tree_give,
+};
+ghost use Rattle.peer_spec.specs.Drives.{got_ask, in_tree};
+ghost use Rattle.peer_spec.specs.TreeCalls.{has_position};
+ghost use Rattle.tree_sync.specs.Syncs.{MayBeBuilt};
 
 use crate::machine::Machine;
-use election::Election;
 use ens_base::{Bytes, Entry, Epoch, Key, PeerId, Seq};
-use exchange::Question;
-use leader_words::Outgoing;
-use peer_fact::{Change, Fact};
-use peer_plan::{body_given, give_of, has_position, needs_node, question_of, reached_node};
+use leader_output::Outgoing;
+use peer_spec::{body_given, give_of, has_position, needs_node, question_of, reached_node};
 use peer_state::{Phase, resume_sync, start_sync, sync_outcome, take_give};
 use phase_rows::{PhaseRule, Then};
-use running_sync::{Give, RunningSync};
+use phase_rules::Election;
 use std::alloc::Global;
 use std::thread::Threads;
 use step_plans::{Outbox, PeerError, Store, Tasks, Walked};
-use sync_rule::{Outcome, needs_build};
+use stored_formats::{Change, Fact};
+use tree_exchange::Question;
 use tree_node::{Position, Scan, TreeBody, TreeVersion};
+use tree_sync::{Give, Outcome, RunningSync, needs_build};
 use wire_frames::Message;
 
 impl<S> Machine<S> {
-    #[tactic(auto, using(peer_plan::proofs::Parts::asked_did))]
+    #[tactic(auto, using(peer_spec::proofs::Parts::asked_did))]
     fn scan<H, R: Threads + Sync>(
         &mut self,
         hasher: &mut H,
@@ -47,7 +63,7 @@ impl<S> Machine<S> {
         self.stores.scan_tree(hasher, rt, alloc)
     }
 
-    #[tactic(auto, using(peer_plan::proofs::Parts::asked_did))]
+    #[tactic(auto, using(peer_spec::proofs::Parts::asked_did))]
     fn read_node<H>(
         &mut self,
         hasher: &mut H,
@@ -63,7 +79,7 @@ impl<S> Machine<S> {
         self.stores.read_node(hasher, alloc, at)
     }
 
-    #[tactic(auto, using(peer_plan::proofs::Parts::asked_did))]
+    #[tactic(auto, using(peer_spec::proofs::Parts::asked_did))]
     fn build<H, R: Threads + Sync>(
         &mut self,
         hasher: &mut H,
@@ -81,7 +97,7 @@ impl<S> Machine<S> {
     }
 
     /// Builds the tree of these entries and installs it, if that is needed.
-    #[tactic(auto, using(peer_plan::proofs::Parts::cut))]
+    #[tactic(auto, using(peer_spec::proofs::Parts::cut))]
     fn install<H, R: Threads + Sync>(
         &mut self,
         hasher: &mut H,
@@ -103,7 +119,7 @@ impl<S> Machine<S> {
     }
 
     /// The node at the position, if it is needed.
-    #[tactic(auto, using(peer_plan::proofs::Parts::cut))]
+    #[tactic(auto, using(peer_spec::proofs::Parts::cut))]
     fn own_node<H>(
         &mut self,
         hasher: &mut H,
@@ -126,7 +142,7 @@ impl<S> Machine<S> {
     }
 
     /// What the peer sends for a question, if it is answered.
-    #[tactic(auto, using(peer_plan::proofs::Parts::cut, tree_node::proofs::TreeVersionLaws::position_deepest))]
+    #[tactic(auto, using(peer_spec::proofs::Parts::cut, tree_node::proofs::TreeVersionLaws::position_deepest))]
     fn shown_node<H>(
         &mut self,
         hasher: &mut H,
@@ -169,7 +185,7 @@ impl<S> Machine<S> {
 
     /// The fact of a sync was accepted: a starting peer counts itself, and a follower sends its
     /// acceptance.
-    #[tactic(auto, using(peer_plan::proofs::Parts::cut))]
+    #[tactic(auto, using(peer_spec::proofs::Parts::cut))]
     #[inline(never)]
     fn accept<H>(
         &mut self,
@@ -199,7 +215,7 @@ impl<S> Machine<S> {
     }
 
     /// Saves the fact of a sync, with the root of the tree as its seal if the peer keeps one.
-    #[tactic(auto, using(peer_plan::proofs::Parts::cut))]
+    #[tactic(auto, using(peer_spec::proofs::Parts::cut))]
     fn save_synced<H>(&mut self, hasher: &mut H, out: &Outbox, new: Fact) -> Result<(), PeerError>
     where
         S: Store<H>,
@@ -213,7 +229,7 @@ impl<S> Machine<S> {
     }
 
     /// Ends a sync with these merged entries.
-    #[tactic(auto, using(peer_plan::proofs::Parts::cut))]
+    #[tactic(auto, using(peer_spec::proofs::Parts::cut))]
     #[inline(never)]
     fn end_sync<H, R: Threads + Sync>(
         &mut self,
@@ -243,7 +259,7 @@ impl<S> Machine<S> {
     }
 
     /// Lets a sync run on, or ends it.
-    #[tactic(auto, using(peer_plan::proofs::Parts::cut))]
+    #[tactic(auto, using(peer_spec::proofs::Parts::cut))]
     fn by_outcome<H, R: Threads + Sync>(
         &mut self,
         hasher: &mut H,
@@ -273,7 +289,7 @@ impl<S> Machine<S> {
     }
 
     /// Sends the messages of a sync, which then runs on, or ends if its sources suffice.
-    #[tactic(auto, using(peer_plan::proofs::Parts::cut))]
+    #[tactic(auto, using(peer_spec::proofs::Parts::cut))]
     fn go_on<H, R: Threads + Sync>(
         &mut self,
         hasher: &mut H,
@@ -296,7 +312,7 @@ impl<S> Machine<S> {
     }
 
     /// Begins a sync on a fact.
-    #[tactic(auto, using(peer_plan::proofs::Parts::cut))]
+    #[tactic(auto, using(peer_spec::proofs::Parts::cut))]
     #[inline(never)]
     fn start_sync<H, R: Threads + Sync>(
         &mut self,
@@ -319,7 +335,7 @@ impl<S> Machine<S> {
     }
 
     /// Resumes the sync that runs, if one does.
-    #[tactic(auto, using(peer_plan::proofs::Parts::cut))]
+    #[tactic(auto, using(peer_spec::proofs::Parts::cut))]
     #[inline(never)]
     fn resume_sync<H>(
         &mut self,
@@ -343,7 +359,7 @@ impl<S> Machine<S> {
     }
 
     /// Runs what follows the message of a row: a sync begins or resumes, or the named rule runs next.
-    #[tactic(auto, using(peer_plan::proofs::Parts::cut))]
+    #[tactic(auto, using(peer_spec::proofs::Parts::cut))]
     #[inline(never)]
     pub(crate) fn follow_on<H, R: Threads + Sync>(
         &mut self,
@@ -376,7 +392,7 @@ impl<S> Machine<S> {
     }
 
     /// Answers a peer that syncs, which asks for a node of the tree.
-    #[tactic(auto, using(peer_plan::proofs::Parts::cut))]
+    #[tactic(auto, using(peer_spec::proofs::Parts::cut))]
     #[inline(never)]
     fn tree_ask<H, R: Threads + Sync>(
         &mut self,
@@ -406,7 +422,7 @@ impl<S> Machine<S> {
 
     /// Rule 23: a peer that syncs asks for a node of the tree. Nothing happens where the peer's own tree
     /// does not have the position.
-    #[tactic(auto, using(peer_plan::proofs::Parts::cut))]
+    #[tactic(auto, using(peer_spec::proofs::Parts::cut))]
     pub(crate) fn ask_in_tree<H, R: Threads + Sync>(
         &mut self,
         hasher: &mut H,
@@ -424,7 +440,9 @@ impl<S> Machine<S> {
         requires me { IsPeer me }
         requires from { IsPeer from }
         requires position { IsPosition Two at }
-        ensures acts { Acts S.does S.refuses (λ x o next. in_tree (has_position x.mode.tree at) (got_ask me from ballot (record { position = at; after = after.now })) x o next) self.old hasher.old out.old result self.new hasher.new out.new }
+        ensures acts { Acts S.does S.refuses (λ x o next. in_tree (has_position x.mode.tree at)
+            (got_ask me from ballot (record { position = at; after = after.now })) x o next) self.old hasher.old
+            out.old result self.new hasher.new out.new }
         ensures grows { Grows out.old out.new }
     {
         if has_position(self.state.mode.tree, at) {
@@ -436,7 +454,7 @@ impl<S> Machine<S> {
     }
 
     /// Lets the sync that runs, if one does, take an answer, in a tree of this version.
-    #[tactic(auto, using(peer_plan::proofs::Parts::cut, peer_plan::proofs::Syncs::go_on_without))]
+    #[tactic(auto, using(peer_spec::proofs::Parts::cut, peer_spec::proofs::Syncs::go_on_without))]
     fn take_give<H, R: Threads + Sync>(
         &mut self,
         hasher: &mut H,
@@ -467,7 +485,7 @@ impl<S> Machine<S> {
     }
 
     /// Takes what a source of the sync sent of a position of the own tree.
-    #[tactic(auto, using(peer_plan::proofs::Parts::cut, tree_node::proofs::TreeVersionLaws::position_deepest))]
+    #[tactic(auto, using(peer_spec::proofs::Parts::cut, tree_node::proofs::TreeVersionLaws::position_deepest))]
     #[inline(never)]
     fn tree_give<H, R: Threads + Sync>(
         &mut self,
@@ -494,7 +512,7 @@ impl<S> Machine<S> {
     }
     /// A source of the sync sent what it has of a node. Nothing happens where the peer's own tree does not
     /// have the position: no question for it is open.
-    #[tactic(auto, using(peer_plan::proofs::Parts::cut))]
+    #[tactic(auto, using(peer_spec::proofs::Parts::cut))]
     pub(crate) fn give_in_tree<H, R: Threads + Sync>(
         &mut self,
         hasher: &mut H,
@@ -513,7 +531,14 @@ impl<S> Machine<S> {
         S: Store<H>,
         requires me { IsPeer me }
         requires position { IsPosition Two at }
-        ensures acts { Acts S.does S.refuses (λ x o next. in_tree (has_position x.mode.tree at) (tree_give me from (record { ballot = ballot; question = record { position = at; after = after.now }; trusted = trusted; body = body.now })) x o next) self.old hasher.old out.old result self.new hasher.new out.new }
+        ensures acts { Acts S.does S.refuses (λ x o next. in_tree (has_position x.mode.tree at)
+            (tree_give me from (record {
+              ballot = ballot;
+              question = record { position = at; after = after.now };
+              trusted = trusted;
+              body = body.now;
+            })) x o next) self.old hasher.old out.old result self.new hasher.new
+            out.new }
         ensures grows { Grows out.old out.new }
     {
         if has_position(self.state.mode.tree, at) {

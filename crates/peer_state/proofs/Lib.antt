@@ -3,4 +3,4 @@ pub mod YoungRows
 pub mod Names
 pub mod Young
 pub mod Quiet
-pub mod RunningSync
+pub mod TreeSync

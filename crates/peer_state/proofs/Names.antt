@@ -1,17 +1,17 @@
 -- Which rules the rows of the phases name.
 use Rattle.std.proofs.Common.{◌≡◌, ◌^◌, ◌-◌, ℕ, Bool, not, ◌&&◌, ◌||◌, ◌==◌, Option, refl}
 use Rattle.ens_base.specs.PeerSet.{holds}
-use Rattle.election.specs.Preparing.{row_10, row_13, first_fact, starts}
-use Rattle.election.specs.Starting.{row_14}
-use Rattle.election.specs.declared.election.Election.{Election}
-use Rattle.election.specs.declared.election.Election.TheVariants.{Preparing, Starting}
-use Rattle.joint_views.specs.Quorums.{is_quorum, is_member}
-use Rattle.peer_fact.specs.Facts.{views_after}
-use Rattle.peer_fact.specs.declared.fact.Fact.{Fact}
+use Rattle.phase_rules.specs.Preparing.{row_10, row_13, first_fact, starts}
+use Rattle.phase_rules.specs.Starting.{row_14}
+use Rattle.phase_rules.specs.declared.election.Election.{Election}
+use Rattle.phase_rules.specs.declared.election.Election.TheVariants.{Preparing, Starting}
+use Rattle.quorums.specs.Quorums.{is_quorum, is_member}
+use Rattle.stored_formats.specs.Facts.{views_after}
+use Rattle.stored_formats.specs.declared.fact.Fact.{Fact}
 use Rattle.phase_rows.specs.Orders.{may_accept}
-use Rattle.probe.specs.Probing.{row_9}
-use Rattle.probe.specs.declared.probing.Probing.{Probing}
-use Rattle.view_change.specs.Finishing.{may_end}
+use Rattle.phase_rules.specs.Probing.{row_9}
+use Rattle.phase_rules.specs.declared.probing.Probing.{Probing}
+use Rattle.phase_rules.specs.Finishing.{may_end}
 use Rattle.phase_rows.specs.declared.phase.PhaseOut.{PhaseOut}
 use Rattle.phase_rows.specs.declared.phase.Then.{Then}
 use Rattle.phase_rows.specs.declared.phase.Then.TheVariants as thens
@@ -21,7 +21,7 @@ use Rattle.peer_state.specs.Rows.{begun_change, ended}
 use Rattle.peer_state.specs.declared.state.ChangeState.{ChangeState}
 use Rattle.peer_state.specs.declared.state.ChangeState.TheVariants.{Settled, Wanted, Finishing as Finishes}
 use Rattle.peer_state.specs.declared.state.Leadership.{Leadership}
-use Rattle.leading.proofs.Cases.{either}
+use Rattle.leader.proofs.Cases.{either}
 
 -- the row names no rule except this one
 abbrev pub NamesOnly : PhaseRule → Then → Type 0

@@ -1,7 +1,7 @@
 -- What holds of a row for one phase, and of the row for the others, holds in each phase.
 use Rattle.std.proofs.Common.{◌≡◌, refl}
-use Rattle.election.specs.declared.election.Election.{Election}
-use Rattle.probe.specs.declared.probing.Probing.{Probing}
+use Rattle.phase_rules.specs.declared.election.Election.{Election}
+use Rattle.phase_rules.specs.declared.probing.Probing.{Probing}
 use Rattle.phase_rows.specs.declared.phase.PhaseOut.{PhaseOut}
 use Rattle.peer_state.specs.Rows.{while_probing, while_electing, while_leading}
 use Rattle.peer_state.specs.declared.state.Leadership.{Leadership}

@@ -1,9 +1,9 @@
 -- Steps that end leading while no call is unanswered.
 use Rattle.std.proofs.Common.{◌≡◌, Bool, true, false, List, [], ◌∷◌, refl}
 use Rattle.std.proofs.lemmas.Bool.{true≢false}
-use Rattle.leading.specs.CallTable.{Waiting, has_calls}
+use Rattle.leader.specs.CallTable.{Waiting, has_calls}
 use Rattle.std.specs.Prelude.{map}
-use Rattle.leading.specs.Ticks.{left_answer}
+use Rattle.leader.specs.Ticks.{left_answer}
 use Rattle.peer_state.specs.Moves.{waits, timeouts, stopped_leading, left}
 use Rattle.peer_state.specs.NoAllocation.{EndsQuietly}
 use Rattle.peer_state.specs.declared.state.Phase.{Phase}

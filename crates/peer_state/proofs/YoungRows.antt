@@ -2,22 +2,22 @@
 use Rattle.std.proofs.Common.{◌≡◌, ◌<◌, ◌-◌, ◌^◌, lit<, ℕ, Bool, true, false, not, ◌&&◌, ◌||◌, ◌==◌, List, refl, subst}
 use Rattle.ens_base.specs.PeerSet.{holds}
 use Rattle.ens_base.specs.declared.epoch.Epoch.{Epoch}
-use Rattle.election.specs.Preparing.{row_12, row_13, starts, first_fact}
-use Rattle.election.specs.Starting.{row_14, row_17}
-use Rattle.election.specs.declared.election.Election.{Election}
-use Rattle.election.specs.declared.election.Election.TheVariants.{Preparing, Starting}
-use Rattle.following.specs.Announcements.{row_16}
-use Rattle.joint_views.specs.Quorums.{is_quorum, is_member}
-use Rattle.peer_fact.specs.Facts.{views_after}
-use Rattle.peer_fact.specs.declared.fact.Change.{Change}
-use Rattle.peer_fact.specs.declared.fact.Change.TheVariants.{Add}
-use Rattle.peer_fact.specs.declared.fact.Fact.{Fact}
+use Rattle.phase_rules.specs.Preparing.{row_12, row_13, starts, first_fact}
+use Rattle.phase_rules.specs.Starting.{row_14, row_17}
+use Rattle.phase_rules.specs.declared.election.Election.{Election}
+use Rattle.phase_rules.specs.declared.election.Election.TheVariants.{Preparing, Starting}
+use Rattle.phase_rules.specs.Announcements.{row_16}
+use Rattle.quorums.specs.Quorums.{is_quorum, is_member}
+use Rattle.stored_formats.specs.Facts.{views_after}
+use Rattle.stored_formats.specs.declared.fact.Change.{Change}
+use Rattle.stored_formats.specs.declared.fact.Change.TheVariants.{Add}
+use Rattle.stored_formats.specs.declared.fact.Fact.{Fact}
 use Rattle.phase_rows.specs.Orders.{is_same, is_newer, may_accept}
-use Rattle.probe.specs.Probing.{row_8}
-use Rattle.probe.specs.declared.probing.Probing.{Probing}
+use Rattle.phase_rules.specs.Probing.{row_8}
+use Rattle.phase_rules.specs.declared.probing.Probing.{Probing}
 use Rattle.step_plans.specs.Plans.{asked}
-use Rattle.view_change.specs.Changes.{row_24}
-use Rattle.view_change.specs.declared.finishing.Finishing.{Finishing}
+use Rattle.phase_rules.specs.Changes.{row_24}
+use Rattle.phase_rules.specs.declared.finishing.Finishing.{Finishing}
 use Rattle.wire_frames.specs.declared.message.Message.{Message}
 use Rattle.wire_frames.specs.declared.message.Message.TheVariants as messages
 use Rattle.phase_rows.specs.declared.phase.PhaseOut.{PhaseOut}
@@ -34,7 +34,7 @@ use Rattle.peer_state.specs.declared.state.Leadership.{Leadership}
 use Rattle.peer_state.specs.declared.state.Phase.{Phase}
 use Rattle.peer_state.specs.declared.state.Phase.TheVariants as phases
 use Rattle.peer_state.specs.declared.state.State.{State}
-use Rattle.leading.proofs.Cases.{either}
+use Rattle.leader.proofs.Cases.{either}
 use Rattle.peer_state.proofs.Phases.{by_probing, by_electing, by_leading}
 
 -- the row leaves a phase with ages below their limits

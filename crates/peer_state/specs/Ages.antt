@@ -1,10 +1,10 @@
 -- How long a peer has waited. A peer that reaches a limit moves on in the same step, so between
 -- steps each age is below its limit.
 use Rattle.std.specs.Prelude.{◌<◌, Bool, true, nat_lt}
-use Rattle.election.specs.Preparing.{PreparesBelow6}
-use Rattle.election.specs.Starting.{StartsBelow8}
-use Rattle.election.specs.declared.election.Election.{Election}
-use Rattle.election.specs.declared.election.Election.TheVariants.{Preparing, Starting}
+use Rattle.phase_rules.specs.Preparing.{PreparesBelow6}
+use Rattle.phase_rules.specs.Starting.{StartsBelow8}
+use Rattle.phase_rules.specs.declared.election.Election.{Election}
+use Rattle.phase_rules.specs.declared.election.Election.TheVariants.{Preparing, Starting}
 use Rattle.peer_state.specs.declared.state.ChangeState.{ChangeState}
 use Rattle.peer_state.specs.declared.state.ChangeState.TheVariants.{Settled, Wanted, Finishing}
 use Rattle.peer_state.specs.declared.state.Phase.{Phase}

@@ -1,9 +1,9 @@
 -- A tick of a leader: rule 5.
 use Rattle.std.specs.Prelude.{ℕ, ◌+◌, Bool, false, true, if◌then◌else◌, List, Option, Some, None}
-use Rattle.peer_fact.specs.declared.fact.Change.TheVariants.{Drop}
-use Rattle.peer_fact.specs.declared.fact.Fact.{Fact}
-use Rattle.leading.specs.LeaderWords.{LeadOut, Outgoing}
-use Rattle.leading.specs.Ticks.{is_to_end, row_5}
+use Rattle.stored_formats.specs.declared.fact.Change.TheVariants.{Drop}
+use Rattle.stored_formats.specs.declared.fact.Fact.{Fact}
+use Rattle.leader.specs.LeaderOutput.{LeadOut, Outgoing}
+use Rattle.leader.specs.Ticks.{is_to_end, row_5}
 use Rattle.phase_rows.specs.declared.phase.Then.{Then}
 use Rattle.phase_rows.specs.declared.phase.Then.TheVariants as thens
 use Rattle.phase_rows.specs.declared.rules.PhaseRule.TheVariants as phase_rules

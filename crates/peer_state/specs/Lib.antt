@@ -3,9 +3,6 @@ pub mod Ages
 pub mod Rows
 pub mod Leading
 pub mod NoAllocation
-pub mod Election
-pub mod Exchange
-pub mod Following
-pub mod Probe
-pub mod RunningSync
-pub mod ViewChange
+pub mod PhaseRules
+pub mod TreeExchange
+pub mod TreeSync

@@ -1,18 +1,18 @@
 -- How the phase and the trust of a peer change, and which calls are answered then.
 use Rattle.std.specs.Option.{is_some}
 use Rattle.std.specs.Prelude.{ℕ, Bool, true, false, ◌||◌, List, [], ◌++◌, map, Option, Some, None}
-use Rattle.election.specs.declared.election.Election.{Election}
-use Rattle.election.specs.declared.election.Election.TheVariants.{Preparing, Starting}
-use Rattle.leading.specs.CallTable.{has_calls}
-use Rattle.following.specs.declared.follower.Follower.{Follower}
-use Rattle.leading.specs.LeaderWords.{AnswerOut}
-use Rattle.leading.specs.Leaders.{new_leader}
-use Rattle.leading.specs.Ticks.{left_answer}
-use Rattle.leading.specs.declared.leader.Leader.{Leader}
-use Rattle.peer_fact.specs.declared.fact.Fact.{Fact}
-use Rattle.peer_fact.specs.declared.saved.SavedFact.{SavedFact}
+use Rattle.phase_rules.specs.declared.election.Election.{Election}
+use Rattle.phase_rules.specs.declared.election.Election.TheVariants.{Preparing, Starting}
+use Rattle.leader.specs.CallTable.{has_calls}
+use Rattle.phase_rules.specs.declared.follower.Follower.{Follower}
+use Rattle.leader.specs.LeaderOutput.{AnswerOut}
+use Rattle.leader.specs.Leaders.{new_leader}
+use Rattle.leader.specs.Ticks.{left_answer}
+use Rattle.leader.specs.declared.leader.Leader.{Leader}
+use Rattle.stored_formats.specs.declared.fact.Fact.{Fact}
+use Rattle.stored_formats.specs.declared.saved.SavedFact.{SavedFact}
 use Rattle.phase_rows.specs.Peers.{nobody}
-use Rattle.probe.specs.declared.probing.Probing.{Probing}
+use Rattle.phase_rules.specs.declared.probing.Probing.{Probing}
 use Rattle.step_plans.specs.Plans.{Out}
 use Rattle.step_plans.specs.Saved.{with_seal}
 use Rattle.phase_rows.specs.declared.phase.Then.{Then}

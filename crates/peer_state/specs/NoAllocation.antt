@@ -1,15 +1,15 @@
 -- The messages that a peer answers without allocating, with at most one message, to the sender, if no
 -- call is unanswered.
 use Rattle.std.specs.Prelude.{◌≡◌, ℕ, Bool, true, false}
-use Rattle.leading.specs.CallTable.{has_calls}
-use Rattle.peer_fact.specs.declared.fact.Fact.{Fact}
+use Rattle.leader.specs.CallTable.{has_calls}
+use Rattle.stored_formats.specs.declared.fact.Fact.{Fact}
 use Rattle.step_plans.specs.Outboxes.{FitsIn}
 use Rattle.phase_rows.specs.declared.phase.Then.{Then}
 use Rattle.phase_rows.specs.declared.phase.Then.TheVariants as thens
 use Rattle.step_plans.specs.declared.outbox.Outbox.{Outbox}
 use Rattle.step_plans.specs.declared.tasks.Task.{Task}
 use Rattle.step_plans.specs.declared.tasks.Task.TheVariants as tasks
-use Rattle.view_change.specs.Finishing.{may_end}
+use Rattle.phase_rules.specs.Finishing.{may_end}
 use Rattle.wire_frames.specs.declared.message.Message.{Message}
 use Rattle.wire_frames.specs.declared.message.Message.TheVariants as messages
 use Rattle.phase_rows.specs.declared.phase.PhaseOut.{PhaseOut}

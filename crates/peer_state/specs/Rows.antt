@@ -1,29 +1,29 @@
 -- The rules as rows: the state after each rule, and what it saves, sends and names. `me` is the
 -- number of the peer.
 use Rattle.std.specs.Prelude.{ℕ, Bool, true, false, ◌&&◌, ◌==◌, if◌then◌else◌, List, Option, Some, None}
-use Rattle.leading.specs.CallTable.{has_calls}
+use Rattle.leader.specs.CallTable.{has_calls}
 use Rattle.ens_base.specs.declared.epoch.Epoch.{Epoch}
-use Rattle.election.specs.Ballots.{row_11, row_15}
-use Rattle.election.specs.Preparing.{row_3, row_10, row_12, row_13}
-use Rattle.election.specs.Starting.{row_4, row_14, row_17}
-use Rattle.election.specs.declared.election.Election.{Election}
-use Rattle.election.specs.declared.election.Election.TheVariants.{Preparing, Starting}
-use Rattle.following.specs.Announcements.{row_16, row_18, row_19}
-use Rattle.following.specs.Follower.{row_2}
-use Rattle.following.specs.Requests.{row_20}
-use Rattle.leading.specs.declared.leader.Leader.{Leader}
-use Rattle.peer_fact.specs.declared.fact.Change.{Change}
-use Rattle.peer_fact.specs.declared.fact.Change.TheVariants.{Add}
-use Rattle.peer_fact.specs.declared.fact.Fact.{Fact}
+use Rattle.phase_rules.specs.Ballots.{row_11, row_15}
+use Rattle.phase_rules.specs.Preparing.{row_3, row_10, row_12, row_13}
+use Rattle.phase_rules.specs.Starting.{row_4, row_14, row_17}
+use Rattle.phase_rules.specs.declared.election.Election.{Election}
+use Rattle.phase_rules.specs.declared.election.Election.TheVariants.{Preparing, Starting}
+use Rattle.phase_rules.specs.Announcements.{row_16, row_18, row_19}
+use Rattle.phase_rules.specs.Follower.{row_2}
+use Rattle.phase_rules.specs.Requests.{row_20}
+use Rattle.leader.specs.declared.leader.Leader.{Leader}
+use Rattle.stored_formats.specs.declared.fact.Change.{Change}
+use Rattle.stored_formats.specs.declared.fact.Change.TheVariants.{Add}
+use Rattle.stored_formats.specs.declared.fact.Fact.{Fact}
 use Rattle.phase_rows.specs.Orders.{is_same}
 use Rattle.phase_rows.specs.Peers.{joined}
 use Rattle.phase_rows.specs.Rows.{silent}
-use Rattle.running_sync.specs.Running.{Running}
-use Rattle.probe.specs.Probing.{row_3 as probing_row_3, row_7, row_8, row_8_probe, row_9}
-use Rattle.probe.specs.declared.probing.Probing.{Probing}
-use Rattle.view_change.specs.Changes.{row_24, row_25}
-use Rattle.view_change.specs.Finishing.{row_17 as finishing_row_17, row_26}
-use Rattle.view_change.specs.declared.finishing.Finishing.{Finishing}
+use Rattle.tree_sync.specs.Running.{Running}
+use Rattle.phase_rules.specs.Probing.{row_3 as probing_row_3, row_7, row_8, row_8_probe, row_9}
+use Rattle.phase_rules.specs.declared.probing.Probing.{Probing}
+use Rattle.phase_rules.specs.Changes.{row_24, row_25}
+use Rattle.phase_rules.specs.Finishing.{row_17 as finishing_row_17, row_26}
+use Rattle.phase_rules.specs.declared.finishing.Finishing.{Finishing}
 use Rattle.wire_frames.specs.declared.message.Message.{Message}
 use Rattle.wire_frames.specs.declared.message.Message.TheVariants as messages
 use Rattle.wire_frames.specs.declared.message.NackCause.{NackCause}

@@ -6,11 +6,11 @@ ghost use Rattle.peer_state.specs.Rows.{change_heard, ended};
 
 use crate::state::{ChangeState, Leadership};
 use ens_base::{Epoch, PeerId, PeerSet};
-use leading::{LeadError, LeadOut, Leader, Outgoing};
-use peer_fact::{Change, Fact};
+use leader::{LeadError, LeadOut, Leader, Outgoing};
 use phase_rows::{PhaseOut, PhaseRule, Then, silent};
+use phase_rules::{Finishing, rule_25};
 use std::alloc::Global;
-use view_change::{Finishing, rule_25};
+use stored_formats::{Change, Fact};
 use wire_frames::Message;
 
 impl ChangeState {

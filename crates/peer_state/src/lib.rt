@@ -15,7 +15,7 @@ mod state;
 mod syncs;
 
 pub use event::{CallIn, Event};
-pub use following::tell_damage;
-pub use running_sync::{AskError, Give, Question, given};
+pub use phase_rules::tell_damage;
 pub use state::{ChangeState, Leadership, Mode, Phase, State};
 pub use syncs::{resume_sync, start_sync, sync_outcome, take_give};
+pub use tree_sync::{AskError, Give, Question, given, is_clean};

@@ -3,16 +3,16 @@ ghost use Rattle.ens_base.specs.View.{IsPeer};
 ghost use Rattle.peer_state.specs.Ages.{IsYoung};
 
 use crate::state::{ChangeState, Phase, State};
-use election::{Election, rule_10, rule_11, rule_15};
 use ens_base::{Epoch, Key, PeerId, View};
-use following::{rule_16, rule_18, rule_19, rule_20, rule_21, rule_22, rule_23};
-use peer_fact::{Change, Fact};
 use phase_rows::{PhaseOut, PhaseRule, Seen, Then, silent};
-use probe::{rule_7, rule_8_probe};
-use running_sync::Question;
+use phase_rules::{
+    Election, rule_7, rule_8_probe, rule_10, rule_11, rule_15, rule_16, rule_18, rule_19, rule_20,
+    rule_21, rule_22, rule_23, rule_24,
+};
 use std::alloc::Global;
 use step_plans::PeerError;
-use view_change::rule_24;
+use stored_formats::{Change, Fact};
+use tree_sync::Question;
 use wire_frames::{Message, NackCause, Object, TreeBody};
 
 impl State {
@@ -257,7 +257,7 @@ impl State {
 
 impl State {
     ghost use Rattle.std.specs.Prelude.{IfOk, IfErr};
-    ghost use Rattle.following.specs.Requests.{row_21, row_22, row_23};
+    ghost use Rattle.phase_rules.specs.Requests.{row_21, row_22, row_23};
 
     /// Rule 21, from what the stores returned. Fails only when out of memory.
     pub fn rule_21(

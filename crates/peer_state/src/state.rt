@@ -1,22 +1,40 @@
 ghost use Rattle.std.specs.Prelude.{◌≡◌, IsOk, OnOk, IfOk, IfErr, false, true, []};
-ghost use Rattle.leading.specs.Leaders.{new_leader};
+ghost use Rattle.leader.specs.Leaders.{new_leader};
 ghost use Rattle.step_plans.specs.Outboxes.{Grows, out_of};
-ghost use Rattle.peer_state.specs.Moves.{keeps_seal, follower, waits, timeouts, and_answers, stopped_leading, without_candidacy, without_sync, accepts_of, accepts_in, leading, left, left_answers, turned, ends_leading, turned_answers, stood, sought, waiting_phase, waiting_for};
+ghost use Rattle.peer_state.specs.Moves.{
+  keeps_seal,
+  follower,
+  waits,
+  timeouts,
+  and_answers,
+  stopped_leading,
+  without_candidacy,
+  without_sync,
+  accepts_of,
+  accepts_in,
+  leading,
+  left,
+  left_answers,
+  turned,
+  ends_leading,
+  turned_answers,
+  stood,
+  sought,
+  waiting_phase,
+  waiting_for,
+};
 ghost use Rattle.peer_state.specs.NoAllocation.{EndsQuietly};
 ghost use Rattle.peer_state.specs.declared.state.ChangeState.TheVariants.{Settled};
 
-use election::Election;
 use ens_base::{Digest, PeerId, PeerSet};
-use following::Follower;
-use leading::Leader;
-use peer_fact::{Change, Fact};
+use leader::Leader;
 use phase_rows::Then;
-use probe::Probing;
-use running_sync::RunningSync;
+use phase_rules::{Election, Finishing, Follower, Probing};
 use std::alloc::Global;
 use std::mem::replace;
 use step_plans::{AnswerOut, Outbox, PeerError};
-use view_change::Finishing;
+use stored_formats::{Change, Fact};
+use tree_sync::RunningSync;
 use wire_frames::TreeVersion;
 
 /// How far a leader is with a change of the view.

@@ -1,14 +1,14 @@
 ghost use Rattle.std.specs.Prelude.{◌≡◌, IfOk, IfErr};
 ghost use Rattle.wire_frames.specs.TreeNode.{IsPosition};
-ghost use Rattle.running_sync.specs.Rows.{row_start, row_resume, row_take};
-ghost use Rattle.running_sync.specs.SyncRule.{outcome_of, MayBeBuilt};
+ghost use Rattle.tree_sync.specs.Rows.{row_start, row_resume, row_take};
+ghost use Rattle.tree_sync.specs.Syncs.{outcome_of, MayBeBuilt};
 
 use ens_base::{Bytes, PeerId, Seq};
-use leading::Outgoing;
-use peer_fact::{Change, Fact};
-use running_sync::{Give, Outcome, RunningSync, SyncError};
+use leader::Outgoing;
 use std::alloc::Global;
 use step_plans::PeerError;
+use stored_formats::{Change, Fact};
+use tree_sync::{Give, Outcome, RunningSync, SyncError};
 use wire_frames::{Scan, TreeVersion};
 
 /// What the sync has come to. Fails only when out of memory.

@@ -1,3 +1,3 @@
 mod TreeCounts
 pub mod SameStores
-pub mod PeerPlan
+pub mod PeerSpec

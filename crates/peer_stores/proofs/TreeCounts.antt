@@ -5,9 +5,9 @@ use Rattle.std.specs.Prelude.{if◌then◌else◌}
 use Rattle.ens_base.specs.Causes.{Rose}
 use Rattle.ens_base.specs.declared.entry.Entry.{Entry}
 use Rattle.ens_base.proofs.Causes.{rose_later, same_count}
-use Rattle.ens_hashing.specs.Hashing.{Book}
-use Rattle.ens_outside.specs.Stores.{NodeCall, NodeAnswer, Top, BackendCall, BackendAnswer}
-use Rattle.ens_outside.specs.declared.errors.StoreError.{StoreError}
+use Rattle.hash_book.specs.Hashing.{Book}
+use Rattle.environment.specs.Stores.{NodeCall, NodeAnswer, Top, BackendCall, BackendAnswer}
+use Rattle.environment.specs.declared.errors.StoreError.{StoreError}
 use Rattle.step_plans.specs.declared.error.PeerError.{PeerError}
 use Rattle.tree_node.specs.declared.version.TreeVersion.{TreeVersion}
 use Rattle.synctree.specs.Halves.{NodesDid}
@@ -21,19 +21,18 @@ use Rattle.synctree.specs.declared.error.TreeError.TheVariants as trees
 use Rattle.step_plans.specs.Calls as peers
 use Rattle.step_plans.specs.declared.walked.Walked.TheVariants.{Reached}
 use Rattle.step_plans.specs.Calls.{FreshTree, OpenTree, Root, Find, Enter, ScanTree, ReadNode, Install, Answers}
-use Rattle.tree_maps.specs.Sixteen.{form_of}
+use Rattle.synctree.specs.Sixteen.{form_of}
 use Rattle.tree_node.specs.declared.body.Scan.{Scan}
 use Rattle.tree_node.specs.declared.position.Position.{Position}
-use Rattle.peer_plan.specs.TreeRepair.{rebuild_plan}
-use Rattle.peer_plan.specs.TreeVerify.{scan_plan}
+use Rattle.peer_spec.specs.TreeRepair.{rebuild_plan, scan_plan}
 use Rattle.fact_store.specs.Keeping.{KeeperCall, KeeperAnswer}
 use Rattle.fact_store.specs.declared.error.KeepError.{KeepError}
-use Rattle.peer_fact.specs.declared.error.FactError.{FactError}
-use Rattle.peer_fact.specs.declared.saved.SavedFact.{SavedFact}
+use Rattle.stored_formats.specs.declared.fact_error.FactError.{FactError}
+use Rattle.stored_formats.specs.declared.saved.SavedFact.{SavedFact}
 use Rattle.peer_stores.specs.Stores.{stores_do, stores_refuse, TreeAlone, TreeLater, IsTreeError}
-use Rattle.peer_plan.specs.TreeCalls.{Walks, Halts, has_position, position_plan, heard, peer_error}
+use Rattle.peer_spec.specs.TreeCalls.{Walks, Halts, has_position, position_plan, heard, peer_error}
 use Rattle.peer_stores.specs.declared.stores.Stores.{Stores}
-use Rattle.peer_plan.proofs.Whole.{never_broken, scan_whole, rebuild_whole}
+use Rattle.peer_spec.proofs.Whole.{never_broken, scan_whole, rebuild_whole}
 
 -- no count of the nodes or of the hasher decreased
 pub record CountsLater {N H : Type 0} (n : N → ℕ) (c d : H → ℕ) (s t : N × H) : Type 0 where

@@ -1,4 +1,3 @@
 pub mod Stores
-pub mod PeerPlan
+pub mod PeerSpec
 pub mod TreeRepair
-pub mod TreeVerify

@@ -1,23 +1,23 @@
 -- What the three stores of a peer and the hasher lent to them may answer, taken together.
 use Rattle.std.specs.Prelude.{◌≡◌, ◌⊎◌, ◌≤◌, ℕ, List, Option, Some, Result, Ok, Err}
 use Rattle.ens_base.specs.Causes.{Rose}
-use Rattle.ens_hashing.specs.Hashing.{Book, ExceedsTold, IsClash, IsKept, IsTotal, Stays, Takes}
-use Rattle.ens_hashing.specs.declared.error.HashError.{HashError}
-use Rattle.ens_hashing.specs.declared.error.HashError.TheVariants as hashes
-use Rattle.ens_outside.specs.Stores.{BackendCall, BackendAnswer, Get, Put as PutObject, NodeCall, NodeAnswer}
-use Rattle.ens_outside.specs.declared.errors.StoreError.{StoreError}
-use Rattle.ens_outside.specs.declared.errors.StoreError.TheVariants as stores
+use Rattle.hash_book.specs.Hashing.{Book, ExceedsTold, IsClash, IsKept, IsTotal, Stays, Takes}
+use Rattle.hash_book.specs.declared.error.HashError.{HashError}
+use Rattle.hash_book.specs.declared.error.HashError.TheVariants as hashes
+use Rattle.environment.specs.Stores.{BackendCall, BackendAnswer, Get, Put as PutObject, NodeCall, NodeAnswer}
+use Rattle.environment.specs.declared.errors.StoreError.{StoreError}
+use Rattle.environment.specs.declared.errors.StoreError.TheVariants as stores
 use Rattle.fact_store.specs.Keeping.{KeeperCall, KeeperAnswer, Load as LoadFact, Save as SaveFact, Loads, IsOldOrNew}
 use Rattle.fact_store.specs.declared.error.KeepError.{KeepError}
 use Rattle.fact_store.specs.declared.error.KeepError.TheVariants as keeps
 use Rattle.md5.specs.Md5.{md5}
-use Rattle.peer_fact.specs.declared.error.FactError.{FactError}
-use Rattle.peer_fact.specs.declared.saved.SavedFact.{SavedFact}
+use Rattle.stored_formats.specs.declared.fact_error.FactError.{FactError}
+use Rattle.stored_formats.specs.declared.saved.SavedFact.{SavedFact}
 use Rattle.step_plans.specs.Calls.{Call, Load, Save, Fetch, Put, Hash, AnswerOf}
 use Rattle.step_plans.specs.declared.error.PeerError.{PeerError}
 use Rattle.step_plans.specs.declared.error.PeerError.TheVariants as errors
 use Rattle.synctree.specs.Outsides.{outside_does, outside_refuses}
-use Rattle.peer_plan.specs.TreeCalls.{TreeDoes, TreeRefuses, version_after}
+use Rattle.peer_spec.specs.TreeCalls.{TreeDoes, TreeRefuses, version_after}
 use Rattle.peer_stores.specs.declared.stores.Stores.{Stores}
 
 -- a store failed: its count of faults rose

@@ -1,9 +1,9 @@
 ghost use Rattle.std.specs.Prelude.{◌≡◌};
 ghost use Rattle.peer_stores.specs.Stores.{hash_error as hash_error_of};
-ghost use Rattle.peer_plan.specs.TreeCalls.{heard, peer_error};
+ghost use Rattle.peer_spec.specs.TreeCalls.{heard, peer_error};
 
 use ens_base::Bytes;
-use ens_hashing::HashError;
+use hash_book::HashError;
 use step_plans::{PeerError, Walked};
 use synctree::TreeError;
 

@@ -1,13 +1,13 @@
 use crate::errors::{hash_error, tree_error, walked};
 use ens_base::{Bytes, Digest, Entry, Key};
-use ens_hashing::Hasher16;
-use ens_outside::{Backend, NodeStore, StoreError};
+use environment::{Backend, NodeStore, StoreError};
 use fact_store::{FactKeeper, KeepError};
-use peer_fact::{Change, Fact, SavedFact};
-use peer_plan::{NoGate, has_position, rebuild, scan};
+use hash_book::Hasher16;
+use peer_spec::{NoGate, has_position, rebuild, scan};
 use std::alloc::Global;
 use std::thread::Threads;
 use step_plans::{PeerError, Store, Walked};
+use stored_formats::{Change, Fact, SavedFact};
 use synctree::Tree;
 use tree_node::{Position, Scan, TreeVersion};
 

@@ -1,19 +1,19 @@
 ghost use Rattle.std.specs.Prelude.{◌≡◌, ◌≢◌, IfOk};
 ghost use Rattle.ens_base.specs.View.{IsPeer};
-ghost use Rattle.peer_plan.specs.Drives.{MayCome};
+ghost use Rattle.peer_spec.specs.Drives.{MayCome};
 ghost use Rattle.wire_frames.specs.Messages.{Obeys};
 
 use ens_base::{Epoch, PeerId, View, ViewError};
-use ens_hashing::PlainHasher;
-use ens_outside::{MemBackend, MemNodes};
+use environment::{MemBackend, MemNodes};
 use fact_store::{FactKeeper, Kept, MemFacts};
+use hash_book::PlainHasher;
 use peer_core::{Event, Mode, Peer, StartError, Stores};
-use peer_fact::{Change, Fact, SavedFact};
 use slot_disk::Failing;
 use std::alloc::Global;
 use std::test::Fail;
 use std::thread::Threads;
 use step_plans::{Outbox, PeerError};
+use stored_formats::{Change, Fact, SavedFact};
 use synctree::Tree;
 use tree_node::TreeVersion;
 use wire_frames::Message;

@@ -1,8 +1,8 @@
 use ens_base::{Digest, PeerId, View};
-use ens_outside::Leaves;
+use environment::Leaves;
 use fact_store::{FactKeeper, KeepError};
-use peer_fact::{Change, Fact, SavedFact};
 use std::test::Fail;
+use stored_formats::{Change, Fact, SavedFact};
 use world_stores::HeldFact;
 
 #[test]

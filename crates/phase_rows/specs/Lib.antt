@@ -1,6 +1,6 @@
 pub mod Peers
 pub mod Orders
 pub mod Rows
-pub mod PeerFact
+pub mod StoredFormats
 pub mod TreeNode
 pub mod WireFrames

@@ -1,7 +1,7 @@
 -- The orders of epochs and facts as tests, and which fact a peer may accept.
 use Rattle.std.specs.Prelude.{ℕ, Bool, true, false, not, ◌&&◌, ◌||◌, ◌==◌, nat_lt, List, ◌∷◌}
 use Rattle.wire_frames.specs.EnsBase.{is_in, Epoch, first_view}
-use Rattle.wire_frames.specs.PeerFact.{Fact}
+use Rattle.wire_frames.specs.StoredFormats.{Fact}
 
 -- whether the first epoch is below the second: by count, then by proposer
 abbrev pub is_below : Epoch → Epoch → Bool

@@ -1,8 +1,8 @@
 -- Sets of peers, as the rules use them. A set is one flag for each number from 0 to 31.
 use Rattle.std.specs.Prelude.{ℕ, Bool, true, false, not, ◌&&◌, ◌||◌, ◌==◌, List, replicate, slice_set}
 use Rattle.wire_frames.specs.EnsBase.{holds}
-use Rattle.joint_views.specs.Quorums.{is_member}
-pub use Rattle.joint_views.specs.Members.{those, members}
+use Rattle.quorums.specs.Quorums.{is_member}
+pub use Rattle.quorums.specs.Members.{those, members}
 
 -- the empty set
 abbrev pub nobody : List Bool

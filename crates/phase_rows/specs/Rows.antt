@@ -1,7 +1,7 @@
 -- The answers of rules.
 use Rattle.std.specs.Prelude.{ℕ, ◌==◌, if◌then◌else◌, Bool, true, false, List, Some, None}
 use Rattle.wire_frames.specs.EnsBase.{Epoch}
-use Rattle.wire_frames.specs.PeerFact.{Fact}
+use Rattle.wire_frames.specs.StoredFormats.{Fact}
 use Rattle.wire_frames.specs.declared.message.Message.{Message}
 use Rattle.wire_frames.specs.declared.message.Message.TheVariants.{Nack}
 use Rattle.wire_frames.specs.declared.message.NackCause.{NackCause}

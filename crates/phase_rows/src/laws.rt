@@ -1,6 +1,6 @@
 ghost use Rattle.std.specs.Prelude.{◌≡◌, ◌↔◌, true};
 ghost use Rattle.wire_frames.specs.EnsBase.{Epoch, IsEpochBelow};
-ghost use Rattle.wire_frames.specs.PeerFact.{Fact, IsNewer};
+ghost use Rattle.wire_frames.specs.StoredFormats.{Fact, IsNewer};
 ghost use Rattle.phase_rows.specs.Orders.{is_below, is_same, is_newer};
 
 /// The tests of the rows decide the orders of epochs and facts.

@@ -19,11 +19,11 @@ mod rules;
 pub use answers::{
     anew_at_6, at_ballot, leave_leading, refuse, refuse_below, save, save_and_send, send, silent,
 };
-pub use joint_views::{is_member, members};
 pub use laws::tests_are_the_orders;
 pub use orders::{is_below, is_newer, is_same, may_accept};
 pub use peers::{alone, are_quorum, joined, others_of, others_outside, with_members};
 pub use phase::{PhaseOut, Seen, Then};
+pub use quorums::{is_member, members};
 pub use rules::{KeyRule, PhaseRule};
 pub use wire_frames::{
     BoxedObject, Change, Fact, FactError, Message, NackCause, Position, SavedFact, Scan,

@@ -1,7 +1,7 @@
 ghost use Rattle.std.specs.Prelude.{◌≡◌};
 ghost use Rattle.phase_rows.specs.Orders.{is_below as below, is_same as same, is_newer as newer, may_accept as may};
 
-use joint_views::is_in;
+use quorums::is_in;
 use wire_frames::{Epoch, Fact, PeerId};
 
 /// Returns whether the first epoch is below the second: by count, then by proposer.

@@ -1,9 +1,9 @@
 ghost use Rattle.std.specs.Prelude.{◌≡◌};
 ghost use Rattle.wire_frames.specs.EnsBase.{holds, IsPeer};
-ghost use Rattle.joint_views.specs.Quorums.{is_quorum};
+ghost use Rattle.quorums.specs.Quorums.{is_quorum};
 ghost use Rattle.phase_rows.specs.Peers.{alone as alone_set, joined as joined_set, others_outside as outside_set, with_members as with_set, others_of as others_set};
 
-use joint_views::{Tally, is_member};
+use quorums::{Tally, is_member};
 use wire_frames::{PeerId, PeerSet, Views};
 
 /// Returns the set of this peer alone. Its number is 1 to 31.

@@ -7,19 +7,18 @@ use Rattle.std.specs.List.{list_any}
 use Rattle.ens_base.proofs.Lists.{in_append, in_left, in_right}
 use Rattle.ens_base.specs.Lists.{◌∈◌, same_bytes}
 use Rattle.ens_base.specs.declared.status.Status.{Status}
-use Rattle.ens_hashing.specs.Hashing.{Book, IsKept, total}
-use Rattle.world_model.proofs.HeldStores.{kept_once}
-use Rattle.world_model.specs.HeldStores.{Account, HasNoClash, added, kept_after, once, HasClashed}
+use Rattle.hash_book.specs.Hashing.{Book, IsKept, total}
+use Rattle.world_model.proofs.WorldSpec.{kept_once}
+use Rattle.world_model.specs.WorldSpec.{Account, HasNoClash, added, kept_after, once, HasClashed, IsPastMessages, IsWithinMessages}
 use Rattle.schedule_input.specs.Endings.{IsUnread}
 use Rattle.schedule_input.specs.Reading.{Refuses, WasCutOff, WasTakenTo}
 use Rattle.schedule_input.specs.declared.ending.Ending.{Ending}
 use Rattle.schedule_input.specs.declared.read.ReadError.{ReadError}
 use Rattle.schedule_input.specs.declared.read.ReadError.TheVariants as read
-use Rattle.schedule_premise.specs.Premise.{first_unsound}
+use Rattle.schedule_input.specs.Premise.{first_unsound}
 use Rattle.schedule_text.specs.Progress.{Blank}
 use Rattle.schedule_text.specs.Reading.{schedule_of}
 use Rattle.schedule_text.specs.declared.schedule.Schedule.{Schedule}
-use Rattle.world_model.specs.WorldSpec.{IsPastMessages, IsWithinMessages}
 use Rattle.replay.specs.Jobs.{HasRead, IsRunnable, Prints, PrintsWith, RanOut, hashed_by, nothing_hashed}
 use Rattle.replay.specs.Worlds.{schedule_run}
 use Rattle.replay.proofs.Members.{Contains_from_in, in_from_Contains}

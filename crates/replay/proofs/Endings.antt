@@ -1,26 +1,26 @@
 -- How a replay ends, for each way in which the run of its schedule ends.
 use Rattle.std.proofs.Common.{◌≡◌, ◌<◌, ◌^◌, ℕ, length, List, [], ◌∷◌, ◌++◌, Option, None, Some, Result, Ok, Err, refl, sym, subst, ◌∙◌, inl, inr, arith, string_bytes}
 use Rattle.std.specs.Prelude.{IfOk, IfSome, codes}
-use Rattle.calm_runs.proofs.Histories.{histories_in_order}
-use Rattle.calm_runs.proofs.Schedules.{calls_complete}
-use Rattle.calm_runs.specs.Calm.{RunsUndisturbed}
-use Rattle.calm_runs.proofs.CallRefinement.{schedules_are_legal, schedules_have_causes}
-use Rattle.calm_runs.specs.CallRefinement.{lines_of}
+use Rattle.calm_laws.proofs.Histories.{histories_in_order}
+use Rattle.calm_laws.proofs.Schedules.{calls_complete}
+use Rattle.calm_laws.specs.Calm.{RunsUndisturbed}
+use Rattle.calm_laws.proofs.WorldRefinement.{schedules_are_legal, schedules_have_causes}
+use Rattle.calm_laws.specs.WorldRefinement.{lines_of}
 use Rattle.ens_base.specs.Lists.{◌∈◌}
 use Rattle.ens_base.specs.declared.status.Status.{Status}
-use Rattle.ens_hashing.specs.Hashing.{Book, KeepsNothing}
-use Rattle.world_model.proofs.HeldStores.{filled_beyond, kept_once}
-use Rattle.world_model.specs.HeldStores.{Account, account, HasHashed, HasNoClash, HasTaken, HasClashed, HasFilled}
+use Rattle.hash_book.specs.Hashing.{Book, KeepsNothing}
+use Rattle.world_model.proofs.WorldSpec.{filled_beyond, kept_once}
+use Rattle.world_model.specs.WorldSpec.{Account, account, HasHashed, HasNoClash, HasTaken, HasClashed, HasFilled}
 use Rattle.schedule_input.specs.declared.ending.Ending.{Ending}
-use Rattle.schedule_premise.proofs.Soundness.{majority_firm, named_in, none_is_sound, unreverted_is_none}
-use Rattle.schedule_premise.specs.Premise.{first_unsound}
+use Rattle.schedule_input.proofs.Soundness.{majority_firm, named_in, none_is_sound, unreverted_is_none}
+use Rattle.schedule_input.specs.Premise.{first_unsound}
 use Rattle.schedule_text.specs.Reading.{schedule_of}
 use Rattle.schedule_text.specs.Spelling as schedule
 use Rattle.schedule_text.specs.declared.event.ScheduleEvent.TheVariants as line
 use Rattle.schedule_text.specs.declared.schedule.Schedule.{Schedule}
 use Rattle.world_model.specs.Refusals.{IsCutOff}
 use Rattle.world_model.specs.declared.error.WorldError.TheVariants.{BookFull, Clash}
-use Rattle.sync_laws.specs.Facts.{AreFirm}
+use Rattle.role_laws.specs.Facts.{AreFirm}
 use Rattle.replay.specs.Jobs.{CompletesCalls, EndsSo, HasAdmitted, HasCausedAnswers, HasLegalHistories, IsRunText, PrintsWith, clash_line, hashed_by, nothing_hashed}
 use Rattle.replay.specs.Stops.{PassesLimit, RejectsIn}
 use Rattle.replay.proofs.Stops.{passes_whole, rejects_filled, rejects_whole}

@@ -4,5 +4,7 @@ pub mod Endings
 pub mod Unread
 pub mod Texts
 pub mod Completing
-pub mod CalmRuns
+pub mod Counted
+pub mod Short
+pub mod CalmLaws
 pub mod WorldModel

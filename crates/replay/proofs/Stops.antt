@@ -4,8 +4,8 @@ use Rattle.std.specs.Prelude.{IfErr, drop, Result}
 use Rattle.std.specs.Result.{IsErrAnd}
 use Rattle.std.proofs.lemmas.List.{length-replicate}
 use Rattle.std.proofs.lemmas.Option.{same_Some, none-some}
-use Rattle.world_model.proofs.HeldStores.{hashed_all}
-use Rattle.world_model.specs.HeldStores.{Account, HasFilled, HasHashed, StartsWith}
+use Rattle.world_model.proofs.WorldSpec.{hashed_all, applied_prefix, IsFurther, applied_same, counted_grows, further_later, peers_in, run_grows, run_to_last}
+use Rattle.world_model.specs.WorldSpec.{Account, HasFilled, HasHashed, StartsWith, applied, effect, run_from, IsPastMessages, IsWithinMessages, Run, in_front, unhashed, opening_run}
 use Rattle.schedule_text.specs.declared.event.ScheduleEvent.{ScheduleEvent}
 use Rattle.schedule_text.specs.declared.schedule.Schedule.{Schedule}
 use Rattle.world_model.proofs.Events.{drop_one}
@@ -15,8 +15,6 @@ use Rattle.world_model.specs.Refusals.{IsCutOff}
 use Rattle.world_model.specs.Turns.{StopsAmong, StopsInTurn, StopsTurn, after_turns, turn, turns_of}
 use Rattle.world_model.specs.declared.error.WorldError.{WorldError}
 use Rattle.world_model.specs.declared.error.WorldError.TheVariants.{Clash, BookFull, MessageLimit, Memory}
-use Rattle.world_model.proofs.WorldSpec.{applied_front, IsFurther, applied_same, counted_grows, further_later, peers_in, run_grows, run_to_last}
-use Rattle.world_model.specs.WorldSpec.{applied, effect, run_from, IsPastMessages, IsWithinMessages, Run, in_front, unhashed, opening_run}
 use Rattle.replay.specs.Jobs.{hashed_by}
 use Rattle.replay.specs.Stops.{CameTo, PassesLimit, RejectsIn, StopsIn, next_turn, run_after, run_until}
 use Rattle.replay.specs.Worlds.{schedule_run}
@@ -55,7 +53,7 @@ begun_anew w = ap (λ (h : List (List ℕ)). record w { hashed = h }) (sym (appe
 
 -- a line hashes the same strings whatever was hashed before
 pub after_strings : (line : ScheduleEvent) (w : Run) → applied line w ≡ in_front w.hashed (applied line (unhashed w))
-after_strings line w = ap (applied line) (begun_anew w) ∙ applied_front line w.hashed (unhashed w)
+after_strings line w = ap (applied line) (begun_anew w) ∙ applied_prefix line w.hashed (unhashed w)
 
 -- a turn hashes the same strings whatever was hashed before
 turn_after : (line : ScheduleEvent) (w : Run) → turn line w ≡ in_front w.hashed (turn line (unhashed w))

@@ -6,18 +6,17 @@ use Rattle.std.specs.Ordering.{ordering_reverse}
 use Rattle.std.proofs.lemmas.Cmp.{nat_list_cmp_total}
 use Rattle.ens_base.specs.Lists.{◌∈◌, bytes_cmp}
 use Rattle.ens_base.specs.declared.status.Status.{Status}
-use Rattle.ens_hashing.specs.Hashing.{total}
+use Rattle.hash_book.specs.Hashing.{total}
 use Rattle.history_scribe.specs.Histories.{AreHistories, history_of}
 use Rattle.register_model.specs.declared.history.History.{History}
 use Rattle.register_model.specs.declared.note.Note.{Note}
-use Rattle.schedule_premise.specs.Premise.{first_unsound}
+use Rattle.schedule_input.specs.Premise.{first_unsound}
 use Rattle.schedule_text.proofs.SchedulesAgain.{schedule_of-text}
 use Rattle.schedule_text.specs.Reading.{schedule_of}
 use Rattle.schedule_text.specs.Spelling.{IsSchedule, schedule_text}
 use Rattle.schedule_text.specs.declared.error.ScheduleError.{ScheduleError}
 use Rattle.schedule_text.specs.declared.schedule.Schedule.{Schedule}
-use Rattle.world_model.specs.WorldSpec.{IsPastMessages, Run}
-use Rattle.world_model.specs.HeldStores.{HasNoClash, once, HasClashed, HasFilled}
+use Rattle.world_model.specs.WorldSpec.{IsPastMessages, Run, HasNoClash, once, HasClashed, HasFilled}
 use Rattle.replay.specs.Jobs.{EndsInRun, IsRunText, Prints, PrintsWith, hashed_by, nothing_hashed}
 use Rattle.history_scribe.specs.Text.{history_line, printed_line}
 use Rattle.replay.specs.Stops.{PassesLimit, RejectsIn}

@@ -1,7 +1,7 @@
 -- If no schedule was read, the printed text says so.
 use Rattle.std.proofs.Common.{ℕ, List, Option, inl}
 use Rattle.ens_base.specs.declared.status.Status.{Status}
-use Rattle.world_model.specs.HeldStores.{Account}
+use Rattle.world_model.specs.WorldSpec.{Account}
 use Rattle.schedule_input.specs.Endings.{IsUnread}
 use Rattle.replay.specs.Jobs.{PrintsWith}
 

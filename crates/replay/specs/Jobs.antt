@@ -1,11 +1,11 @@
 -- What a job prints, and why it ends as it does.
 use Rattle.std.specs.Prelude.{◌≡◌, ◌⊎◌, ◌<◌, ◌≤◌, ℕ, List, [], ◌∷◌, ◌++◌, codes, Option, None, Some, Ok, Err, IfSome}
 use Rattle.std.specs.Io.KnownBytes.{IsAtEnd}
-use Rattle.calm_order.specs.Served.{AreServed, ids_on}
-use Rattle.calm_runs.specs.Calm.{IsUndisturbed}
-use Rattle.calm_runs.specs.CallRefinement.{HaveCauses, AreLegal, answers_in, calls_from}
-use Rattle.world_model.specs.HeldStores.{Account, HasHashed, HasNoClash, once, HasClashed, HasFilled}
-use Rattle.schedule_premise.specs.Premise.{first_unsound}
+use Rattle.register_model.specs.Served.{AreServed, ids_on}
+use Rattle.calm_laws.specs.Calm.{IsUndisturbed}
+use Rattle.calm_laws.specs.WorldRefinement.{HaveCauses, AreLegal, answers_in, calls_from}
+use Rattle.world_model.specs.WorldSpec.{Account, HasHashed, HasNoClash, once, HasClashed, HasFilled, IsPastMessages, IsWithinMessages}
+use Rattle.schedule_input.specs.Premise.{first_unsound}
 use Rattle.schedule_text.specs.Reading.{schedule_of}
 use Rattle.schedule_text.specs.Spelling.{IsSchedule}
 use Rattle.schedule_text.specs.declared.error.ScheduleError.TheVariants as schedule
@@ -14,7 +14,7 @@ use Rattle.ens_base.specs.Causes.{Rose}
 use Rattle.ens_base.specs.Lists.{◌∈◌}
 use Rattle.ens_base.specs.Words.{bytes_word}
 use Rattle.ens_base.specs.declared.status.Status.{Status}
-use Rattle.ens_hashing.specs.Hashing.{IsClash, KeepsNothing, empty_book, total}
+use Rattle.hash_book.specs.Hashing.{IsClash, KeepsNothing, empty_book, total}
 use Rattle.history_scribe.specs.Histories.{AreHistories}
 use Rattle.register_model.specs.declared.history.History.{History}
 use Rattle.schedule_input.specs.Endings.{IsBadLine, IsLineLimit, IsUnsound}
@@ -22,7 +22,6 @@ use Rattle.schedule_input.specs.Reading.{WasCutOff, WasTakenTo}
 use Rattle.replay.specs.Stops.{PassesLimit, RejectsIn}
 use Rattle.replay.specs.Text.{IsTextOfRun}
 use Rattle.replay.specs.Worlds.{schedule_run}
-use Rattle.world_model.specs.WorldSpec.{IsPastMessages, IsWithinMessages}
 
 -- the run of the schedule stays within the limit on messages, and the text is what it prints, with the
 -- histories

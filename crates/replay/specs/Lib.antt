@@ -3,6 +3,7 @@ pub mod Worlds
 pub mod Stops
 pub mod Summary
 pub mod Jobs
-pub mod CalmRuns
-pub mod HeldStores
+pub mod Completed
+pub mod CalmLaws
+pub mod WorldSpec
 pub mod WorldModel

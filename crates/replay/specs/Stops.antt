@@ -1,13 +1,12 @@
 -- In which turn of a line of a schedule its run ended early.
 use Rattle.std.specs.Prelude.{◌≡◌, ◌⊎◌, ◌<◌, ℕ, List, [], ◌∷◌, ◌++◌}
-use Rattle.world_model.specs.HeldStores.{Account, HasHashed}
+use Rattle.world_model.specs.WorldSpec.{Account, HasHashed, run_of_schedule, IsPastMessages, IsWithinMessages, Run, unhashed}
 use Rattle.schedule_text.specs.declared.event.ScheduleEvent.{ScheduleEvent}
 use Rattle.schedule_text.specs.declared.schedule.Schedule.{Schedule}
 use Rattle.world_model.specs.Refusals.{IsCutOff}
 use Rattle.world_model.specs.Turns.{after_turns, turn, turns_of}
 use Rattle.world_model.specs.declared.error.WorldError.{WorldError}
 use Rattle.world_model.specs.declared.error.WorldError.TheVariants.{MessageLimit}
-use Rattle.world_model.specs.WorldSpec.{run_of_schedule, IsPastMessages, IsWithinMessages, Run, unhashed}
 
 -- the run of a schedule after these lines of it
 abbrev pub run_after : Schedule → List ScheduleEvent → Run

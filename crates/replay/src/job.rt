@@ -2,16 +2,16 @@ ghost use Rattle.std.specs.Prelude.{◌≡◌, ◌≢◌, List, ℕ, IfOk, IsSom
 ghost use Rattle.std.specs.Io.KnownBytes.{Appends};
 ghost use Rattle.ens_base.specs.Causes.{Rose};
 ghost use Rattle.ens_base.specs.declared.status.Status.{Status};
-ghost use Rattle.ens_outside.specs.Written.{AppendsFront};
-ghost use Rattle.world_model.specs.HeldStores.{account};
+ghost use Rattle.environment.specs.Written.{AppendsPrefix};
+ghost use Rattle.world_model.specs.WorldSpec.{account};
 ghost use Rattle.schedule_input.specs.Reading.{WasTakenTo};
 ghost use Rattle.schedule_text.specs.Spelling.{IsSchedule};
 ghost use Rattle.replay.specs.Jobs.{EndsSo, HasRead, IsRunnable, Prints, PrintsWith, RanOut};
 
 use crate::worlds::run_world;
 use ens_base::Status;
-use ens_hashing::{HashBook, Hasher16};
-use ens_outside::{Sink, Source, finish};
+use environment::{Sink, Source, finish};
+use hash_book::{HashBook, Hasher16};
 use schedule_input::{Ending, read_schedule};
 use schedule_text::Schedule;
 use std::alloc::{AllocError, Global};
@@ -74,8 +74,14 @@ pub fn replay_with<S: Source, O: Sink, H: Hasher16, R: Threads + Sync>(
     output: &mut O,
     hasher: &mut H,
 ) -> Status
-    ensures printed { result ≢ Status.WriteFault → (text : List ℕ) × PrintsWith (account H.kept H.clashes H.fulls hasher.old) (account H.kept H.clashes H.fulls hasher.new) (S.left input.old) result text × Appends (O.written output.old) (O.written output.new) text }
-    ensures front { result ≡ Status.WriteFault → (status : Status) × (text : List ℕ) × PrintsWith (account H.kept H.clashes H.fulls hasher.old) (account H.kept H.clashes H.fulls hasher.new) (S.left input.old) status text × HasRead (S.left input.old) (S.left input.new) (S.fault_count input.old) (S.fault_count input.new) status × AppendsFront (O.written output.old) (O.written output.new) text }
+    ensures printed { result ≢ Status.WriteFault → (text : List ℕ)
+        × PrintsWith (account H.kept H.clashes H.fulls hasher.old) (account H.kept H.clashes H.fulls hasher.new)
+        (S.left input.old) result text × Appends (O.written output.old) (O.written output.new) text }
+    ensures prefix { result ≡ Status.WriteFault → (status : Status) × (text : List ℕ)
+        × PrintsWith (account H.kept H.clashes H.fulls hasher.old) (account H.kept H.clashes H.fulls hasher.new)
+        (S.left input.old) status text
+        × HasRead (S.left input.old) (S.left input.new) (S.fault_count input.old) (S.fault_count input.new) status
+        × AppendsPrefix (O.written output.old) (O.written output.new) text }
     ensures input { result ≢ Status.WriteFault → HasRead (S.left input.old) (S.left input.new) (S.fault_count input.old) (S.fault_count input.new) result }
     ensures read { result ≡ Status.ReadFault → Rose (S.fault_count input.old) (S.fault_count input.new) }
     ensures write { result ≡ Status.WriteFault → Rose (O.fault_count output.old) (O.fault_count output.new) }
@@ -95,12 +101,17 @@ pub fn replay<S: Source, O: Sink, R: Threads + Sync>(
     output: &mut O,
 ) -> Status
     ensures printed { result ≢ Status.WriteFault → (text : List ℕ) × Prints (S.left input.old) result text × Appends (O.written output.old) (O.written output.new) text }
-    ensures front { result ≡ Status.WriteFault → (status : Status) × (text : List ℕ) × Prints (S.left input.old) status text × HasRead (S.left input.old) (S.left input.new) (S.fault_count input.old) (S.fault_count input.new) status × AppendsFront (O.written output.old) (O.written output.new) text }
+    ensures prefix { result ≡ Status.WriteFault → (status : Status) × (text : List ℕ)
+        × Prints (S.left input.old) status text
+        × HasRead (S.left input.old) (S.left input.new) (S.fault_count input.old) (S.fault_count input.new) status
+        × AppendsPrefix (O.written output.old) (O.written output.new) text }
     ensures input { result ≢ Status.WriteFault → HasRead (S.left input.old) (S.left input.new) (S.fault_count input.old) (S.fault_count input.new) result }
     ensures read { result ≡ Status.ReadFault → Rose (S.fault_count input.old) (S.fault_count input.new) }
     ensures write { result ≡ Status.WriteFault → Rose (O.fault_count output.old) (O.fault_count output.new) }
     // If no other end has a cause, the replay runs to its end, unless out of memory.
-    ensures completes { IsSomeAnd (S.left input.old) IsRunnable → ¬ Rose (S.fault_count input.old) (S.fault_count input.new) → ¬ Rose (O.fault_count output.old) (O.fault_count output.new) → RanOut result }
+    ensures completes { IsSomeAnd (S.left input.old) IsRunnable
+        → ¬ Rose (S.fault_count input.old) (S.fault_count input.new)
+        → ¬ Rose (O.fault_count output.old) (O.fault_count output.new) → RanOut result }
 {
     let mut book = HashBook::new(alloc, BOOK_LIMIT);
     replay_with(rt, alloc, input, output, &mut book)

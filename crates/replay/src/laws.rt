@@ -1,6 +1,6 @@
 ghost use Rattle.std.specs.Prelude.{◌≡◌, ℕ, List, None, Some};
 ghost use Rattle.ens_base.specs.declared.status.Status.{Status};
-ghost use Rattle.schedule_premise.specs.Premise.{first_unsound};
+ghost use Rattle.schedule_input.specs.Premise.{first_unsound};
 ghost use Rattle.schedule_text.specs.Spelling.{IsSchedule, schedule_text};
 ghost use Rattle.schedule_text.specs.declared.schedule.Schedule.{Schedule};
 ghost use Rattle.world_model.specs.WorldSpec.{Run};

@@ -4,10 +4,22 @@ ghost use Rattle.std.specs.List.{list_any};
 ghost use Rattle.std.specs.Ordering.{nat_cmp};
 ghost use Rattle.register_model.specs.Histories.{is_done as has_done, is_refused as has_refused};
 ghost use Rattle.register_model.specs.declared.printed.Printed.{Printed};
-ghost use Rattle.replay.specs.Summary.{answers_with, count_line, digest_line, is_call as has_call, is_unknown as has_unknown, reply_count, reply_counts, schedule_counts, settled_by as settled_call, settles, summary_text};
+ghost use Rattle.replay.specs.Summary.{
+  answers_with,
+  count_line,
+  digest_line,
+  is_call as has_call,
+  is_unknown as has_unknown,
+  reply_count,
+  reply_counts,
+  schedule_counts,
+  settled_by as settled_call,
+  settles,
+  summary_text,
+};
 
 use ens_base::push_bytes;
-use ens_hashing::digest_of;
+use hash_book::digest_of;
 use register_model::{Printed, is_done, is_refused};
 use schedule_text::{Schedule, ScheduleEvent};
 use std::alloc::{AllocError, Global};

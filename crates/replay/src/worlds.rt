@@ -1,20 +1,19 @@
 ghost use Rattle.std.specs.Prelude.{◌≡◌, ◌≢◌, IfErr, IfOk, MatchOption, None, OnOk, string_bytes};
 ghost use Rattle.ens_base.specs.declared.status.Status.{Status};
-ghost use Rattle.ens_hashing.specs.Hashing.{KeepsNothing};
-ghost use Rattle.world_model.specs.HeldStores.{account, HasHashed, HasNoClash};
-ghost use Rattle.schedule_premise.specs.Premise.{first_unsound};
+ghost use Rattle.hash_book.specs.Hashing.{KeepsNothing};
+ghost use Rattle.world_model.specs.WorldSpec.{account, HasHashed, HasNoClash, IsPastMessages, IsWithinMessages, unhashed};
+ghost use Rattle.schedule_input.specs.Premise.{first_unsound};
 ghost use Rattle.schedule_text.specs.Spelling.{IsSchedule};
 ghost use Rattle.replay.specs.Jobs.{EndsSo, clash_line, hashed_by};
 ghost use Rattle.replay.specs.Stops.{StopsIn};
 ghost use Rattle.replay.specs.Text.{IsTextOfRun};
 ghost use Rattle.world_model.specs.Worlds.{run_of};
-ghost use Rattle.world_model.specs.WorldSpec.{IsPastMessages, IsWithinMessages, unhashed};
 ghost use Rattle.replay.specs.Worlds.{schedule_run};
 ghost use Rattle.replay.specs.Summary.{EndsInSummary, IsSummary};
 
 use crate::summary::write_summary;
 use ens_base::{Bytes, Status, push_bytes};
-use ens_hashing::{Hasher16, PlainHasher};
+use hash_book::{Hasher16, PlainHasher};
 use history_scribe::write_text;
 use schedule_input::Ending;
 use schedule_text::Schedule;
@@ -53,7 +52,10 @@ fn run_lines<H: Hasher16, R: Threads + Sync>(
     hasher: &mut H,
 ) -> Result<World, WorldError>
     requires { IsSchedule schedule.now }
-    ensures reaches { IfOk result (λ w. (run_of w ≡ unhashed (schedule_run schedule.now)) × IsWithinMessages (schedule_run schedule.now) × HasHashed (hashed_by schedule.now) (account H.kept H.clashes H.fulls hasher.old) (account H.kept H.clashes H.fulls hasher.new)) }
+    ensures reaches { IfOk result (λ w. (run_of w ≡ unhashed (schedule_run schedule.now))
+        × IsWithinMessages (schedule_run schedule.now)
+        × HasHashed (hashed_by schedule.now) (account H.kept H.clashes H.fulls hasher.old)
+        (account H.kept H.clashes H.fulls hasher.new)) }
     ensures apart { KeepsNothing (H.kept hasher.old) → OnOk result (HasNoClash (hashed_by schedule.now)) }
     ensures stops { IfErr result (StopsIn schedule.now (account H.kept H.clashes H.fulls hasher.old) (account H.kept H.clashes H.fulls hasher.new)) }
 {

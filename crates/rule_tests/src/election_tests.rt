@@ -1,12 +1,12 @@
 ghost use Rattle.std.specs.Prelude.{◌<◌};
 ghost use Rattle.ens_base.specs.View.{IsPeer};
 
-use crate::builders::{Answer, Said, epoch, set, silent, summary, tells, view};
-use election::{Election, rule_10, rule_11, rule_15};
+use crate::phase_builders::{Answer, Said, epoch, set, silent, summary, tells, view};
 use ens_base::{PeerId, Views};
-use peer_fact::{Change, Fact};
 use phase_rows::{PhaseRule, Then};
+use phase_rules::{Election, rule_10, rule_11, rule_15};
 use std::test::Fail;
+use stored_formats::{Change, Fact};
 use wire_frames::NackCause;
 
 const ENOUGH_PROMISED: Then = Then::Rule(PhaseRule::EnoughPromised);

@@ -1,13 +1,12 @@
 ghost use Rattle.std.specs.Prelude.{◌<◌};
 
-use crate::builders::{Answer, Said, epoch, silent, summary, tells, view};
+use crate::phase_builders::{Answer, Said, epoch, silent, summary, tells, view};
 use ens_base::{Digest, Entry, Epoch, Key, PeerId, Seq, Version, Views};
-use ens_object::Object;
-use following::{Follower, rule_16, rule_18, rule_19, rule_20, rule_21, rule_22, rule_23};
-use peer_fact::{Change, Fact};
 use phase_rows::{PhaseRule, Seen, Then};
+use phase_rules::{Follower, rule_16, rule_18, rule_19, rule_20, rule_21, rule_22, rule_23};
 use std::alloc::Global;
 use std::test::Fail;
+use stored_formats::{Change, Fact, Object};
 use tree_node::{Position, TreeBody};
 use wire_frames::NackCause;
 

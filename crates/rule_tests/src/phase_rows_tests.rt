@@ -1,11 +1,11 @@
-use crate::builders::{epoch, set, view};
+use crate::phase_builders::{epoch, set, view};
 use ens_base::{PeerId, Views};
-use peer_fact::Fact;
 use phase_rows::{
     alone, is_below, is_member, is_newer, joined, may_accept, members, others_of, others_outside,
     with_members,
 };
 use std::test::Fail;
+use stored_formats::Fact;
 
 #[test]
 fn members_of_two_views(rt: HostRuntime) -> Result<(), Fail> {

@@ -1,9 +1,9 @@
-use crate::builders::{Answer, Said, epoch, set, silent, summary, tells, view};
+use crate::phase_builders::{Answer, Said, epoch, set, silent, summary, tells, view};
 use ens_base::{PeerId, Views};
-use peer_fact::Fact;
 use phase_rows::{PhaseRule, Then};
-use probe::{Probing, rule_7, rule_8_probe};
+use phase_rules::{Probing, rule_7, rule_8_probe};
 use std::test::Fail;
+use stored_formats::Fact;
 
 const ENOUGH_HEARD: Then = Then::Rule(PhaseRule::EnoughHeard);
 

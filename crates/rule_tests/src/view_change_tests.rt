@@ -1,9 +1,9 @@
-use crate::builders::{Answer, Said, epoch, set, silent, summary, view};
+use crate::phase_builders::{Answer, Said, epoch, set, silent, summary, view};
 use ens_base::{PeerId, PeerSet, View, Views};
-use peer_fact::{Change, Fact};
 use phase_rows::{PhaseRule, Then};
+use phase_rules::{Finishing, rule_24, rule_25};
 use std::test::Fail;
-use view_change::{Finishing, rule_24, rule_25};
+use stored_formats::{Change, Fact};
 
 const PREPARES: Then = Then::Rule(PhaseRule::Prepare);
 

@@ -15,9 +15,9 @@ use Rattle.register_model.specs.declared.printed.Printed.TheVariants as lines
 use Rattle.history_scribe.specs.Text.{history_line, next_id, printed_line, reply_words, taken_word}
 use Rattle.history_record.specs.Lines.{answer_named, ids_from, line_words, most_bytes, number, outcome_of, reply_name_of}
 use Rattle.history_record.specs.Telling.{Heard, has_history, next_heard, open_call, open_change, with_answer, with_change, with_history, with_line}
-use Rattle.schedule_words.proofs.Dotted.{has-version, length-version, length-version_word-le, number_of-decimal, version_of-word}
-use Rattle.schedule_words.proofs.Fields.{key_of-word, length-bytes_word, length-value_word-le, value_of-word}
-use Rattle.schedule_words.proofs.Joined.{AreWords, has, has-decimal, has-encode, has-letters, has-value, length-decimal, length-encode, length-value, parts_of-join}
+use Rattle.lexemes.proofs.Dotted.{has-version, length-version, length-version_word-le, number_of-decimal, version_of-word}
+use Rattle.lexemes.proofs.Fields.{key_of-word, length-bytes_word, length-value_word-le, value_of-word}
+use Rattle.lexemes.proofs.Joined.{AreWords, has, has-decimal, has-encode, has-letters, has-value, length-decimal, length-encode, length-value, parts_of-join}
 use Rattle.schedule_text.proofs.Counted.{AreFull, has_empty-full}
 use Rattle.schedule_text.proofs.OneLine.{decimal_short, has-join, total}
 use Rattle.schedule_text.proofs.Spaced.{join_spaced}

@@ -13,7 +13,7 @@ use Rattle.history_record.specs.Calls.{keys_of}
 use Rattle.schedule_text.specs.declared.event.ScheduleEvent.{ScheduleEvent}
 use Rattle.schedule_text.specs.declared.event.ScheduleEvent.TheVariants as line
 use Rattle.run_laws.proofs.Printing.{called_in}
-use Rattle.history_audit.proofs.Rising.{inserted}
+use Rattle.audit.proofs.Rising.{inserted}
 
 insert_in : (ks : List (List ℕ)) (k y : List ℕ) → (y ≡ k) ⊎ (y ∈ ks) → y ∈ insert_key bytes_cmp ks k
 insert_in [] k y there = there

@@ -4,12 +4,12 @@ use Rattle.std.proofs.Common.{◌≡◌, ℕ, zero, suc, ◌+◌, ◌-◌, ◌<�
 use Rattle.std.proofs.lemmas.Bool.{ne_eqb}
 use Rattle.std.specs.Prelude.{slice_get}
 use Rattle.history_record.specs.Calls.{change_peer}
-use Rattle.held_stores.specs.Held.{Held}
-use Rattle.held_stores.specs.Laws.{held_with}
-use Rattle.leader_words.specs.declared.out.AnswerOut.{AnswerOut}
+use Rattle.world_spec.specs.Held.{Held}
+use Rattle.world_spec.specs.HeldLaws.{held_with}
+use Rattle.leader_output.specs.declared.out.AnswerOut.{AnswerOut}
 use Rattle.network.specs.Mail.{goes, is_among, oldest, most_messages}
-use Rattle.peer_plan.specs.Drives.{step_of}
-use Rattle.peer_plan.specs.Kept.{IsStepCall, Reaches}
+use Rattle.peer_spec.specs.Drives.{step_of}
+use Rattle.peer_spec.specs.Kept.{IsStepCall, Reaches}
 use Rattle.peer_state.specs.declared.event.Event.{Event}
 use Rattle.peer_state.specs.declared.event.Event.TheVariants as events
 use Rattle.peer_state.specs.declared.state.State.{State}

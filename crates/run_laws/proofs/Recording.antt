@@ -4,22 +4,22 @@ use Rattle.std.proofs.lemmas.Bool.Decides.{nat_tests}
 use Rattle.std.proofs.lemmas.Bool.{ne_eqb}
 use Rattle.std.specs.List.{AllByRecursion, flat_map}
 use Rattle.std.specs.Prelude.{Contains}
-use Rattle.abstract_protocol.specs.Protocol.{State, state_after}
-use Rattle.call_refinement.proofs.Causes.{causes_of}
-use Rattle.call_refinement.proofs.ScheduleLaws.{schedules_are_legal}
-use Rattle.call_refinement.specs.Causes.{HasCause, HaveCauses}
-use Rattle.call_refinement.specs.Lines.{AreLegal, answers_in, calls_from}
+use Rattle.protocol_laws.specs.Protocol.{State, state_after}
+use Rattle.world_refinement.proofs.Causes.{causes_of}
+use Rattle.world_refinement.proofs.ScheduleLaws.{schedules_are_legal}
+use Rattle.world_refinement.specs.Causes.{HasCause, HaveCauses}
+use Rattle.world_refinement.specs.Lines.{AreLegal, answers_in, calls_from}
 use Rattle.ens_base.specs.Limits.{IsKey}
 use Rattle.ens_base.specs.Lists.{◌∈◌, AreDistinct}
 use Rattle.ens_base.specs.declared.status.Status.{Status}
 use Rattle.ens_base.proofs.Tests.{itself}
 use Rattle.ens_base.proofs.Lists.{from_map}
-use Rattle.entry_laws.proofs.Replies.{run_entries}
-use Rattle.held_stores.specs.Held.{HasNoClash}
-use Rattle.history_audit.specs.Reports.{IsReport}
-use Rattle.history_audit.specs.declared.report.Report.{Report}
-use Rattle.history_faults.specs.Faults.{AreFaults}
-use Rattle.history_faults.specs.declared.fault.Fault.{Fault}
+use Rattle.protocol_laws.proofs.Replies.{run_entries}
+use Rattle.world_spec.specs.Held.{HasNoClash}
+use Rattle.audit.specs.Reports.{IsReport}
+use Rattle.audit.specs.declared.report.Report.{Report}
+use Rattle.history_record.specs.Faults.{AreFaults}
+use Rattle.history_record.specs.declared.fault.Fault.{Fault}
 use Rattle.history_record.specs.Calls as record_calls
 use Rattle.history_record.specs.Calls.{call_event, change_peer, keys_of}
 use Rattle.history_record.specs.Reading.{record_of}
@@ -34,16 +34,16 @@ use Rattle.register_model.specs.declared.printed.Printed.{Printed}
 use Rattle.register_model.specs.declared.printed.Printed.TheVariants as lines
 use Rattle.cluster.proofs.Replay.{Contains_from_in, in_from_Contains, one_text, firm_lines}
 use Rattle.cluster.specs.Replay.{Prints, hashed_by, IsTextOfRun, schedule_run}
-use Rattle.safety_laws.proofs.Noted.{Listed, run_listed}
-use Rattle.schedule_premise.specs.Premise.{first_unsound}
+use Rattle.protocol_laws.proofs.Noted.{Listed, run_listed}
+use Rattle.schedule_input.specs.Premise.{first_unsound}
 use Rattle.schedule_text.proofs.SchedulesRead.{schedule_of-ok}
 use Rattle.schedule_text.specs.Reading.{schedule_of}
 use Rattle.schedule_text.specs.Spelling.{AllMayStand, IsSchedule, call_ids, schedule_text}
 use Rattle.schedule_text.specs.declared.event.ScheduleEvent.{ScheduleEvent}
 use Rattle.schedule_text.specs.declared.event.ScheduleEvent.TheVariants as line
 use Rattle.schedule_text.specs.declared.schedule.Schedule.{Schedule}
-use Rattle.call_refinement.proofs.StepRefinement.{images_few}
-use Rattle.call_refinement.proofs.Schedules.{id_called}
+use Rattle.world_refinement.proofs.StepRefinement.{images_few}
+use Rattle.world_refinement.proofs.Schedules.{id_called}
 use Rattle.world_spec.specs.Runs.{Run, opening_run}
 use Rattle.run_laws.proofs.Again.{HistoryFits, LineFits}
 use Rattle.run_laws.proofs.Keys.{called_keys, keys_called, keys_rise}

@@ -1,28 +1,28 @@
 -- A step of a peer replies to the request for a change of view that it is on, and to nothing else.
 use Rattle.std.proofs.Common.{◌≡◌, ℕ, zero, suc, Bool, true, false, List, [], ◌∷◌, ◌++◌, Option, Some, None, refl, ◌∙◌}
-use Rattle.election.specs.declared.election.Election.{Election}
-use Rattle.election.specs.declared.election.Election.TheVariants.{Preparing, Starting}
+use Rattle.phase_rules.specs.declared.election.Election.{Election}
+use Rattle.phase_rules.specs.declared.election.Election.TheVariants.{Preparing, Starting}
 use Rattle.ens_base.specs.declared.epoch.Epoch.{Epoch}
-use Rattle.ens_object.specs.declared.object.Object.{Object}
-use Rattle.exchange.specs.declared.question.Question.{Question}
-use Rattle.following.specs.Refusals.{is_served}
-use Rattle.following.specs.Requests.{row_21, row_22, row_23}
-use Rattle.leader_words.specs.Outs.{asked_by}
-use Rattle.leader_words.specs.declared.out.LeadOut.{LeadOut}
-use Rattle.leader_words.specs.declared.out.Outgoing.{Outgoing}
-use Rattle.leader_words.specs.declared.out.Own.{Own}
-use Rattle.leading.specs.Puts.{row_35_reply}
-use Rattle.leading.specs.Rounds.{row_29_reply, row_33_reply}
-use Rattle.leading.specs.Rules.{lead_row}
-use Rattle.leading.specs.Starts.{row_27}
-use Rattle.leading.specs.declared.leader.Leader.{Leader}
-use Rattle.peer_fact.specs.declared.fact.Fact.{Fact}
-use Rattle.peer_plan.specs.Drives.{row_done, own_key, followed_up, and_row, lead_done, lead, reminded, task_done, driven, led_in, ticked, got_ask, after_put, put_done, in_tree, delivered, unavailable, and_change, most_turns, concluded, step_of}
-use Rattle.peer_plan.proofs.Aging.{asked_asks, confirmed_asks, found_asks, if_follows, installed_asks, looked_asks, noted_follows, own_node_asks, owned_asks, shown_asks, shown_node_asks, written_asks, sealed_asks}
-use Rattle.peer_plan.specs.Kept.{IsStepCall}
-use Rattle.peer_plan.specs.TreeCalls.{has_position}
-use Rattle.peer_plan.specs.Owns.{looked, found}
-use Rattle.peer_plan.specs.Syncs.{saved, and_sends, with_sync, accepted, accepted_own, accepted_in, by_outcome, go_on, resume_sync, followed_on, needs_node, take_give, tree_give, sealed_if}
+use Rattle.stored_formats.specs.declared.object.Object.{Object}
+use Rattle.tree_exchange.specs.declared.question.Question.{Question}
+use Rattle.phase_rules.specs.Refusals.{is_served}
+use Rattle.phase_rules.specs.Requests.{row_21, row_22, row_23}
+use Rattle.leader_output.specs.Outs.{asked_by}
+use Rattle.leader_output.specs.declared.out.LeadOut.{LeadOut}
+use Rattle.leader_output.specs.declared.out.Outgoing.{Outgoing}
+use Rattle.leader_output.specs.declared.out.Own.{Own}
+use Rattle.leader.specs.Puts.{row_35_reply}
+use Rattle.leader.specs.Rounds.{row_29_reply, row_33_reply}
+use Rattle.leader.specs.Rules.{lead_row}
+use Rattle.leader.specs.Starts.{row_27}
+use Rattle.leader.specs.declared.leader.Leader.{Leader}
+use Rattle.stored_formats.specs.declared.fact.Fact.{Fact}
+use Rattle.peer_spec.specs.Drives.{row_done, own_key, followed_up, and_row, lead_done, lead, reminded, task_done, driven, led_in, ticked, got_ask, after_put, put_done, in_tree, delivered, unavailable, and_change, most_turns, concluded, step_of}
+use Rattle.peer_spec.proofs.Aging.{asked_asks, confirmed_asks, found_asks, if_follows, installed_asks, looked_asks, noted_follows, own_node_asks, owned_asks, shown_asks, shown_node_asks, written_asks, sealed_asks}
+use Rattle.peer_spec.specs.Kept.{IsStepCall}
+use Rattle.peer_spec.specs.TreeCalls.{has_position}
+use Rattle.peer_spec.specs.Owns.{looked, found}
+use Rattle.peer_spec.specs.Syncs.{saved, and_sends, with_sync, accepted, accepted_own, accepted_in, by_outcome, go_on, resume_sync, followed_on, needs_node, take_give, tree_give, sealed_if}
 use Rattle.peer_state.specs.Leading.{ticks, row_5_calls, wished, begins}
 use Rattle.peer_state.specs.Moves.{left, left_answers, turned, turned_answers, ends_leading, leading, with_leader, and_answers, electing, without_sync, keeps_seal}
 use Rattle.peer_state.specs.Rows.{aged, phase_row, received, asked_change, leads, changes}
@@ -38,9 +38,9 @@ use Rattle.phase_rows.specs.declared.phase.Seen.TheVariants as seens
 use Rattle.phase_rows.specs.declared.phase.Then.{Then}
 use Rattle.phase_rows.specs.declared.phase.Then.TheVariants as thens
 use Rattle.phase_rows.specs.declared.rules.PhaseRule.TheVariants as phase_rules
-use Rattle.running_sync.specs.Rows.{row_start, row_resume, row_take}
-use Rattle.running_sync.specs.Running.{Running}
-use Rattle.running_sync.specs.declared.asking.Give.{Give}
+use Rattle.tree_sync.specs.Rows.{row_start, row_resume, row_take}
+use Rattle.tree_sync.specs.Running.{Running}
+use Rattle.tree_sync.specs.declared.asking.Give.{Give}
 use Rattle.step_plans.specs.Calls.{Save, ScanTree}
 use Rattle.step_plans.specs.Plans.{Done, Out, Follows, nothing, Rest, Part}
 use Rattle.step_plans.specs.Saved.{with_seal}
@@ -48,9 +48,9 @@ use Rattle.step_plans.specs.Sends.{posted_to}
 use Rattle.step_plans.specs.Tasks.{named, keyed}
 use Rattle.step_plans.specs.declared.tasks.Task.{Task}
 use Rattle.step_plans.specs.declared.tasks.Task.TheVariants as tasks
-use Rattle.sync_rule.specs.Syncs.{needs_build, outcome_of}
-use Rattle.sync_rule.specs.declared.sync.Outcome.{Outcome}
-use Rattle.sync_rule.specs.declared.sync.Outcome.TheVariants.{Pending, Trusted}
+use Rattle.tree_sync.specs.Syncs.{needs_build, outcome_of}
+use Rattle.tree_sync.specs.declared.sync.Outcome.{Outcome}
+use Rattle.tree_sync.specs.declared.sync.Outcome.TheVariants.{Pending, Trusted}
 use Rattle.tree_node.specs.declared.version.TreeVersion.{TreeVersion}
 use Rattle.wire_frames.specs.declared.message.Message.{Message}
 use Rattle.wire_frames.specs.declared.message.Message.TheVariants as messages

@@ -1,20 +1,20 @@
 -- The world after a sound schedule agrees with a run of the abstract protocol, in its calls and its answers.
 use Rattle.std.proofs.Common.{◌≡◌, ◌<◌, ◌^◌, List, [], length, None, refl, sym, subst, inl, arith}
-use Rattle.abstract_protocol.specs.Protocol.{State, Step, IsRun, opening, state_after}
-use Rattle.call_refinement.proofs.Agreement.{Stands, carried}
-use Rattle.call_refinement.proofs.OpeningWorld.{opening_holds}
-use Rattle.call_refinement.proofs.Schedules.{IsAfter, IsCarried, schedule_agrees}
-use Rattle.call_refinement.proofs.ScheduleLaws.{in_contains}
-use Rattle.call_refinement.specs.Lines.{BookAgrees, lines_of}
-use Rattle.held_stores.specs.Held.{HasNoClash}
+use Rattle.protocol_laws.specs.Protocol.{State, Step, IsRun, opening, state_after}
+use Rattle.world_refinement.proofs.Agreement.{Stands, carried}
+use Rattle.world_refinement.proofs.OpeningWorld.{opening_holds}
+use Rattle.world_refinement.proofs.Schedules.{IsAfter, IsCarried, schedule_agrees}
+use Rattle.world_refinement.proofs.ScheduleLaws.{in_contains}
+use Rattle.world_refinement.specs.Lines.{BookAgrees, lines_of}
+use Rattle.world_spec.specs.Held.{HasNoClash}
 use Rattle.cluster.specs.Replay.{hashed_by, schedule_run}
 use Rattle.cluster.proofs.Replay.{firm_lines}
-use Rattle.schedule_premise.specs.Premise.{first_unsound}
+use Rattle.schedule_input.specs.Premise.{first_unsound}
 use Rattle.schedule_text.specs.Spelling.{IsSchedule}
 use Rattle.schedule_text.specs.declared.schedule.Schedule.{Schedule}
-use Rattle.call_refinement.specs.StepRefinement.{AsksFit, EpochsFit}
-use Rattle.sync_laws.specs.Facts.{Lines}
-use Rattle.call_refinement.specs.TreeRefinement.{AreFree}
+use Rattle.world_refinement.specs.StepRefinement.{AsksFit, EpochsFit}
+use Rattle.role_laws.specs.Facts.{Lines}
+use Rattle.world_refinement.specs.PeerRefinement.{AreFree}
 use Rattle.world_spec.specs.Runs.{Run, opening_run}
 
 -- a run of the protocol, whose book has the calls of the schedule and the answers that were printed

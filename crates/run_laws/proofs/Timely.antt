@@ -1,12 +1,12 @@
 -- In each state of a run of the abstract protocol no answer comes before its call, and each reply is in range.
 use Rattle.std.proofs.Common.{◌≡◌, ℕ, ◌+◌, ◌<◌, ◌≤◌, ◌^◌, ◌==◌, ◌&&◌, Bool, true, false, ◌⊎◌, inl, inr, if◌then◌else◌, nat_lt, nat_le, List, [], ◌∷◌, Option, None, Some, length, refl, sym, subst, arith}
 use Rattle.std.proofs.lemmas.Bool.Decides.{nat_tests}
-use Rattle.abstract_protocol.specs.Book.{version_of, register_at}
-use Rattle.abstract_protocol.specs.Numbers.{epoch_number}
-use Rattle.abstract_protocol.specs.Protocol.{State, Step, Begin, Ask, Raise, Elect, Accept, Commit, Adopt, Write, Acknowledge, Install, EndSync, Propose, Settle, Note, Answer, Lose, Revert, happens, MayCome, IsRun, state_after}
-use Rattle.abstract_protocol.proofs.Ranks.{version_within}
+use Rattle.protocol_laws.specs.Book.{version_of, register_at}
+use Rattle.protocol_laws.specs.Numbers.{epoch_number}
+use Rattle.protocol_laws.specs.Protocol.{State, Step, Begin, Ask, Raise, Elect, Accept, Commit, Adopt, Write, Acknowledge, Install, EndSync, Propose, Settle, Note, Answer, Lose, Revert, happens, MayCome, IsRun, state_after}
+use Rattle.protocol_laws.proofs.Ranks.{version_within}
 use Rattle.byteorder.specs.Endian.{big_number}
-use Rattle.election_laws.proofs.Epochs.{not_both}
+use Rattle.protocol_laws.proofs.Epochs.{not_both}
 use Rattle.ens_base.specs.Epochs.{same_version}
 use Rattle.ens_base.specs.Limits.{IsValue, IsVersion}
 use Rattle.ens_base.specs.Lists.{◌∈◌, same_bytes}
@@ -14,10 +14,10 @@ use Rattle.ens_base.specs.declared.command.Command.{Command}
 use Rattle.ens_base.specs.declared.command.Command.TheVariants.{Get, PutOnce, Update, Append, Add, Swap, Over, Delete}
 use Rattle.ens_base.specs.declared.epoch.Version.{Version}
 use Rattle.ens_base.specs.declared.reply.Reply.{Reply}
-use Rattle.ens_object.specs.Objects.{IsContent}
-use Rattle.entry_laws.proofs.Replies.{run_entries}
-use Rattle.entry_laws.specs.Entries.{AnswerKeeps, EntriesAreSafe, IsByRead, IsByWrite, SawNewest, SawNothing}
-use Rattle.leader_laws.specs.Tables as theory
+use Rattle.stored_formats.specs.Objects.{IsContent}
+use Rattle.protocol_laws.proofs.Replies.{run_entries}
+use Rattle.protocol_laws.specs.Entries.{AnswerKeeps, EntriesAreSafe, IsByRead, IsByWrite, SawNewest, SawNothing}
+use Rattle.role_laws.specs.Tables as theory
 use Rattle.leader_refinement.specs.Seen.{rank}
 use Rattle.register_model.specs.Histories.{IsDone}
 use Rattle.register_model.specs.Registers.{Outcome, Keeps, Writes, outcome, written}
@@ -25,11 +25,11 @@ use Rattle.register_model.specs.declared.answer.Answer.{Answer as Given}
 use Rattle.register_model.specs.declared.call.Call.{Call}
 use Rattle.register_model.specs.declared.register.Register.{Register}
 use Rattle.register_model.specs.declared.register.Register.TheVariants.{Absent, Present}
-use Rattle.safety_laws.proofs.Noted.{Listed, run_listed}
-use Rattle.call_refinement.proofs.StepRefinement.{objects_obey}
-use Rattle.call_refinement.specs.StepRefinement.{AsksFit, EpochsFit}
-use Rattle.version_laws.proofs.Maps.{put_other}
-use Rattle.version_laws.proofs.Trees.{run_versions}
+use Rattle.protocol_laws.proofs.Noted.{Listed, run_listed}
+use Rattle.world_refinement.proofs.StepRefinement.{objects_obey}
+use Rattle.world_refinement.specs.StepRefinement.{AsksFit, EpochsFit}
+use Rattle.protocol_laws.proofs.Maps.{put_other}
+use Rattle.protocol_laws.proofs.Trees.{run_versions}
 use Rattle.run_laws.proofs.Again.{ReplyFits}
 
 -- ## No answer comes before its call

@@ -1,6 +1,6 @@
 -- A schedule, the line `answers`, lines that may follow each other, and the histories, are read as a record.
 use Rattle.std.proofs.Common.{◌≡◌, ℕ, ◌+◌, ◌≤◌, ◌==◌, Bool, true, false, if◌then◌else◌, List, [], ◌∷◌, ◌++◌, length, codes, map, Option, Some, Result, Ok, Err, refl, sym, ap, subst, ◌∙◌, inl, inr, arith, lit≤, append_assoc, append-nil}
-use Rattle.call_refinement.specs.Lines.{answers_in}
+use Rattle.world_refinement.specs.Lines.{answers_in}
 use Rattle.std.proofs.lemmas.List.Concat.{flat_map-append}
 use Rattle.std.proofs.lemmas.Bool.{ne_eqb, le-ltb}
 use Rattle.std.specs.Fmt.{decimal}
@@ -17,11 +17,11 @@ use Rattle.history_record.specs.Calls.{call_event, change_peer, keys_of}
 use Rattle.history_record.specs.Reading.{Stage, Before, Behind, and_then, answers_line, before, next_stage, opened, read_parts, record_of}
 use Rattle.history_record.specs.Telling.{Heard, is_answered, is_changed, nothing_heard}
 use Rattle.history_record.specs.declared.error.AuditError.{AuditError}
-use Rattle.schedule_words.proofs.Joined.{has, has-decimal, has-letters, length-decimal, parts_of-more}
-use Rattle.schedule_words.specs.Causes.{cause_number}
-use Rattle.schedule_words.specs.declared.cause.Cause.TheVariants.{Heading, Unknown}
-use Rattle.schedule_words.specs.Spelling.{member_words}
-use Rattle.schedule_words.specs.Words.{parts_of}
+use Rattle.lexemes.proofs.Joined.{has, has-decimal, has-letters, length-decimal, parts_of-more}
+use Rattle.lexemes.specs.Causes.{cause_number}
+use Rattle.lexemes.specs.declared.cause.Cause.TheVariants.{Heading, Unknown}
+use Rattle.lexemes.specs.Spelling.{member_words}
+use Rattle.lexemes.specs.Words.{parts_of}
 use Rattle.schedule_text.proofs.OneLine.{event_line-one, has-join, members_word}
 use Rattle.schedule_text.proofs.SchedulesAgain.{form_one, schedule_of-text}
 use Rattle.schedule_text.proofs.SchedulesRead.{and_then_ok}

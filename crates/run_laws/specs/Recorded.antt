@@ -1,8 +1,8 @@
 -- The record that is made of a schedule and of what its replay printed.
 use Rattle.std.specs.Prelude.{◌≡◌, ℕ, List, [], Ok}
-use Rattle.call_refinement.specs.Lines.{answers_in}
-use Rattle.history_audit.specs.Reports.{IsReport}
-use Rattle.history_audit.specs.declared.report.Report.{Report}
+use Rattle.world_refinement.specs.Lines.{answers_in}
+use Rattle.audit.specs.Reports.{IsReport}
+use Rattle.audit.specs.declared.report.Report.{Report}
 use Rattle.history_record.specs.Reading.{record_of}
 use Rattle.history_record.specs.declared.record.Record.{Record}
 use Rattle.history_scribe.specs.Histories.{AreHistories}

@@ -1,7 +1,7 @@
 //! The laws that join the audit of recorded histories to `replay` and to `cluster`.
 //!
 //! A record is the text of a schedule, the line `answers`, and the text that a run of the schedule
-//! printed. `history_record` reads it line by line, and `history_audit` reports the histories that are
+//! printed. `history_record` reads it line by line, and `audit` reports the histories that are
 //! not legal. If the printed text is that of a replay which ran to its end, no line is refused, and
 //! each key has a legal history (`specs/Recorded`).
 //!

@@ -4,8 +4,8 @@ use Rattle.std.specs.Prelude.{if◌then◌else◌, ◌==◌}
 use Rattle.std.specs.List.{range_with_len}
 use Rattle.std.proofs.lemmas.Bool.Decides.{nat_tests}
 use Rattle.ens_base.specs.Lists.{◌∈◌, AreDistinct}
-use Rattle.schedule_words.proofs.Ascending.{IsPeer-members, IsStrictlyIncreasing-members}
-use Rattle.schedule_words.specs.Spelling.{AscendFrom}
+use Rattle.lexemes.proofs.Ascending.{IsPeer-members, IsStrictlyIncreasing-members}
+use Rattle.lexemes.specs.Spelling.{AscendFrom}
 use Rattle.schedule_text.specs.Spelling.{IsSchedule, call_ids}
 use Rattle.schedule_text.specs.declared.event.ScheduleEvent.{ScheduleEvent}
 use Rattle.schedule_text.specs.declared.event.ScheduleEvent.TheVariants.{Revert}

@@ -3,7 +3,7 @@ use Rattle.std.proofs.Common.{◌≡◌, ℕ, zero, suc, ◌+◌, ◌/◌, ◌%�
 use Rattle.std.specs.Prelude.{if◌then◌else◌, ◌==◌, nat_le}
 use Rattle.ens_base.specs.Limits.{IsBytes, IsKey, IsValue, IsCommand}
 use Rattle.ens_base.specs.declared.command.Command.TheVariants as does
-use Rattle.schedule_words.specs.Spelling.{IsAmong}
+use Rattle.lexemes.specs.Spelling.{IsAmong}
 use Rattle.schedule_text.specs.Spelling.{AllMayStand}
 use Rattle.schedule_text.specs.declared.event.ScheduleEvent.{ScheduleEvent}
 use Rattle.schedule_generator.specs.Drawing.{gives, draw_bytes, moved, ◌>>=◌}

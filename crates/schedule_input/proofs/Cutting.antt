@@ -2,11 +2,11 @@
 use Rattle.std.proofs.Common.{◌≡◌, ◌≤◌, ◌<◌, ◌+◌, ◌⊎◌, ℕ, List, [], ◌∷◌, ◌++◌, length, Option, None, Some, Result, Ok, Err, inl, inr, refl, sym, ap, ◌∙◌, append_assoc, length-append, arith}
 use Rattle.std.specs.Io.KnownBytes.{Consumes, Keeps, prepend_known}
 use Rattle.std.proofs.lemmas.Bool.{cases_order}
-use Rattle.ens_outside.specs.Lines.{HasNoFeed, IsLine}
-use Rattle.ens_outside.specs.declared.lines.NextError.{NextError}
-use Rattle.ens_outside.specs.declared.lines.NextError.TheVariants as next
-use Rattle.line_reading.specs.Counting.{most_taken}
-use Rattle.schedule_words.specs.Words.{parts_of}
+use Rattle.environment.specs.Lines.{HasNoFeed, IsLine}
+use Rattle.environment.specs.declared.lines.NextError.{NextError}
+use Rattle.environment.specs.declared.lines.NextError.TheVariants as next
+use Rattle.schedule_input.specs.Counting.{most_taken}
+use Rattle.lexemes.specs.Words.{parts_of}
 use Rattle.schedule_text.specs.Progress.{Progress, Blank, lines_so_far}
 use Rattle.schedule_text.specs.Reading.{and_then, next_line, read_parts}
 use Rattle.schedule_text.specs.declared.error.ScheduleError.{ScheduleError}

@@ -1,3 +1,9 @@
+pub mod LineParts
+pub mod LineCutting
+pub mod Counting
+pub mod Searches
+pub mod Lines
+pub mod Soundness
 pub mod Parts
 pub mod Reached
 pub mod Cutting

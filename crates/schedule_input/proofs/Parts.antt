@@ -4,11 +4,11 @@ use Rattle.std.specs.Prelude.{IfSome, nat_lt, if◌then◌else◌}
 use Rattle.std.specs.Io.KnownBytes.{Consumes, Keeps, IsAtEnd, prepend_known}
 use Rattle.std.proofs.lemmas.Bool.Decides.{nat_tests}
 use Rattle.std.proofs.lemmas.List.Splits.{slice_split-cons_yes, slice_split-cons_no, slice_split_none}
-use Rattle.ens_outside.specs.Lines.{HasNoFeed, BeginsLong}
-use Rattle.schedule_words.specs.Causes.{or_cause}
-use Rattle.schedule_words.specs.Words.{parts_of, words_of}
-use Rattle.schedule_words.specs.declared.cause.Cause.{Cause}
-use Rattle.schedule_words.specs.declared.cause.Cause.TheVariants.{TooLong, Unfinished, Repeated, Heading}
+use Rattle.environment.specs.Lines.{HasNoFeed, BeginsLong}
+use Rattle.lexemes.specs.Causes.{or_cause}
+use Rattle.lexemes.specs.Words.{parts_of, words_of}
+use Rattle.lexemes.specs.declared.cause.Cause.{Cause}
+use Rattle.lexemes.specs.declared.cause.Cause.TheVariants.{TooLong, Unfinished, Repeated, Heading}
 use Rattle.schedule_text.specs.Events.{event_of, line_limit}
 use Rattle.schedule_text.specs.Progress.{Progress, Blank, Titled, Counted, Running, lines_so_far, is_repeated}
 use Rattle.schedule_text.specs.Reading.{next_line, with_line, bounded, at_next, ended, and_then, read_parts, most_lines, peers_of, opening_of, TakesLine}
@@ -22,7 +22,7 @@ use Rattle.schedule_text.proofs.SchedulesRead.{at_line_ok, past_lines, last_is_t
 use Rattle.schedule_input.specs.declared.read.ReadError.{ReadError}
 use Rattle.schedule_input.specs.declared.read.ReadError.TheVariants as read
 use Rattle.schedule_input.specs.Reading.{ReadsAs, ReadsOn, Refuses, of_schedule}
-use Rattle.line_reading.proofs.Parts.{no_feeds, parts_line, onto_some, first_part, long_part}
+use Rattle.schedule_input.proofs.LineParts.{no_feeds, parts_line, onto_some, first_part, long_part}
 
 -- a line in front of more lines
 read_more : (p : Progress) (v : List ℕ) (parts : List (List ℕ)) (w : List ℕ) (more : List (List ℕ)) → parts ≡ w ∷ more → read_parts p (v ∷ parts) ≡ and_then (next_line p v) (λ q. read_parts q parts)

@@ -1,8 +1,8 @@
 -- What a job prints if it read no schedule, or one that fails the premise on reverted trees.
 use Rattle.std.specs.Prelude.{◌≡◌, ℕ, List, [], ◌∷◌, ◌++◌, codes, Option, Some, Ok, Err, IfSome}
 use Rattle.std.specs.Fmt.{decimal}
-use Rattle.schedule_premise.specs.Premise.{first_unsound, is_reverted}
-use Rattle.schedule_premise.specs.Text.{premise_line}
+use Rattle.schedule_input.specs.Premise.{first_unsound, is_reverted}
+use Rattle.schedule_input.specs.Text.{premise_line}
 use Rattle.schedule_text.specs.Reading.{schedule_of}
 use Rattle.schedule_text.specs.declared.error.ScheduleError.TheVariants as schedule
 use Rattle.schedule_text.specs.declared.schedule.Schedule.{Schedule}

@@ -1,15 +1,15 @@
 -- How the rest of a source is read, and why no schedule was read.
 use Rattle.std.specs.Prelude.{◌≡◌, ◌≤◌, ◌+◌, ◌*◌, ◌++◌, ℕ, List, [], length, Option, None, Some, Result, Err, IfSome}
-use Rattle.schedule_words.specs.Words.{parts_of}
+use Rattle.lexemes.specs.Words.{parts_of}
 use Rattle.schedule_text.specs.Progress.{Progress, Blank, lines_so_far}
 use Rattle.schedule_text.specs.Reading.{read_parts}
 use Rattle.schedule_text.specs.declared.error.ScheduleError.{ScheduleError}
 use Rattle.schedule_text.specs.declared.error.ScheduleError.TheVariants as schedule
 use Rattle.schedule_text.specs.declared.schedule.Schedule.{Schedule}
-use Rattle.ens_outside.specs.Lines.{IsLine}
-use Rattle.line_reading.specs.Counting.{most_taken}
-use Rattle.ens_outside.specs.declared.lines.NextError.{NextError}
-use Rattle.ens_outside.specs.declared.lines.NextError.TheVariants as next
+use Rattle.environment.specs.Lines.{IsLine}
+use Rattle.schedule_input.specs.Counting.{most_taken}
+use Rattle.environment.specs.declared.lines.NextError.{NextError}
+use Rattle.environment.specs.declared.lines.NextError.TheVariants as next
 use Rattle.schedule_input.specs.declared.read.ReadError.{ReadError}
 use Rattle.schedule_input.specs.declared.read.ReadError.TheVariants as read
 
@@ -34,8 +34,8 @@ ReadsOn (Some old) p (Some new) q = read_parts p (parts_of 10 old) ≡ read_part
 
 -- some bytes, read from the beginning, are the lines so far
 pub record IsReached (p : Progress) : Type 0 where
-  pub front : List ℕ
-  pub reads : (rest : List ℕ) → read_parts Blank (parts_of 10 (front ++ rest)) ≡ read_parts p (parts_of 10 rest)
+  pub prefix : List ℕ
+  pub reads : (rest : List ℕ) → read_parts Blank (parts_of 10 (prefix ++ rest)) ≡ read_parts p (parts_of 10 rest)
 
 -- these bytes, read from the beginning, are the lines so far
 abbrev pub AreLines : List ℕ → Progress → Type 0

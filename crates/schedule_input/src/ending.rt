@@ -1,14 +1,15 @@
 ghost use Rattle.std.specs.Prelude.{◌≡◌, ◌≢◌, ℕ, List, Option, None, IfOk, MatchOption, string_bytes};
 ghost use Rattle.ens_base.specs.declared.status.Status.{Status};
-ghost use Rattle.schedule_premise.specs.Premise.{first_unsound};
+ghost use Rattle.schedule_input.specs.Premise.{first_unsound};
 ghost use Rattle.schedule_text.specs.Progress.{Blank};
 ghost use Rattle.schedule_text.specs.Spelling.{IsSchedule};
 ghost use Rattle.schedule_input.specs.Endings.{IsPremiseText, IsUnread};
 ghost use Rattle.schedule_input.specs.Reading.{Refuses};
 
 use crate::read::ReadError;
+use crate::search::premise;
+use crate::text::write_premise;
 use ens_base::Status;
-use schedule_premise::{premise, write_premise};
 use schedule_text::Schedule;
 use std::alloc::{AllocError, Global};
 

@@ -1,14 +1,14 @@
 ghost use Rattle.std.specs.Prelude.{◌≡◌, ◌≢◌, ◌+◌, ◌<◌, ◌≤◌, ℕ, List, Option, IfOk, IfErr, IfSome, IfNone, OnOk, IsErrOf};
 ghost use Rattle.std.specs.Io.KnownBytes.{prepend_known, IsAtEnd};
 ghost use Rattle.ens_base.specs.Causes.{Rose};
-ghost use Rattle.ens_outside.specs.Lines.{BeginsLong};
+ghost use Rattle.environment.specs.Lines.{BeginsLong};
 ghost use Rattle.schedule_text.specs.Progress.{Blank, lines_so_far};
 ghost use Rattle.schedule_text.specs.Reading.{ended, schedule_of};
 ghost use Rattle.schedule_text.specs.Spelling.{IsSchedule};
 ghost use Rattle.schedule_input.specs.Reading.{HasTaken, IsReached, ReadsAs, ReadsOn, Refuses, WasCutOff, WasTakenTo, of_schedule};
 
 use ens_base::MAX_LINES;
-use ens_outside::{Lines, Next, NextError, Source};
+use environment::{Lines, Next, NextError, Source};
 use schedule_text::{Reading, Schedule, ScheduleError};
 use std::alloc::Global;
 
@@ -62,15 +62,25 @@ fn take_line<S: Source>(
     input: &mut S,
     reading: &mut Reading,
 ) -> Result<Option<Vec<u8>>, ReadError>
-    ensures line { IfOk result (λ o. IfNone o (ReadsOn (prepend_known lines.old.pending.items (S.left input.old)) reading.old (prepend_known lines.new.pending.items (S.left input.new)) reading.new × (lines_so_far reading.new ≡ lines_so_far reading.old + 1))) }
-    ensures rest { IfOk result (λ o. IfSome o (λ v. ReadsAs (prepend_known lines.old.pending.items (S.left input.old)) reading.old (ended reading.old v.items) × IsAtEnd (prepend_known lines.new.pending.items (S.left input.new)) × (reading.new ≡ reading.old))) }
+    ensures line { IfOk result (λ o. IfNone o
+        (ReadsOn (prepend_known lines.old.pending.items (S.left input.old)) reading.old
+        (prepend_known lines.new.pending.items (S.left input.new)) reading.new
+        × (lines_so_far reading.new ≡ lines_so_far reading.old + 1))) }
+    ensures rest { IfOk result (λ o. IfSome o
+        (λ v. ReadsAs (prepend_known lines.old.pending.items (S.left input.old)) reading.old
+        (ended reading.old v.items) × IsAtEnd (prepend_known lines.new.pending.items (S.left input.new))
+        × (reading.new ≡ reading.old))) }
     ensures reached { OnOk result (IsReached reading.old → IsReached reading.new) }
     ensures bad { IfErr result (Refuses (prepend_known lines.old.pending.items (S.left input.old)) reading.old) }
     ensures later { S.fault_count input.old ≤ S.fault_count input.new }
     ensures failed { IsErrOf result ReadError.Failed → Rose (S.fault_count input.old) (S.fault_count input.new) }
-    ensures held { IfOk result (λ o. IfNone o ((source : Option (List ℕ)) → HasTaken source lines.old.pending.items (S.left input.old) reading.old → HasTaken source lines.new.pending.items (S.left input.new) reading.new)) }
+    ensures held { IfOk result (λ o. IfNone o ((source : Option (List ℕ))
+        → HasTaken source lines.old.pending.items (S.left input.old) reading.old
+        → HasTaken source lines.new.pending.items (S.left input.new) reading.new)) }
     ensures taken { (source : Option (List ℕ)) → HasTaken source lines.old.pending.items (S.left input.old) reading.old → lines_so_far reading.old < 200000 → WasTakenTo source (S.left input.new) }
-    ensures cut { IsErrOf result ReadError.Failed → (source : Option (List ℕ)) → HasTaken source lines.old.pending.items (S.left input.old) reading.old → lines_so_far reading.old < 200000 → WasCutOff source (S.left input.new) }
+    ensures cut { IsErrOf result ReadError.Failed → (source : Option (List ℕ))
+        → HasTaken source lines.old.pending.items (S.left input.old) reading.old → lines_so_far reading.old < 200000
+        → WasCutOff source (S.left input.new) }
 {
     match lines.next(alloc, input)? {
         Next::Line(line) => {

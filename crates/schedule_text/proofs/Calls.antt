@@ -2,9 +2,9 @@
 use Rattle.std.proofs.Common.{◌≡◌, ℕ, ◌-◌, ◌<◌, ◌≤◌, ◌==◌, false, not, List, [], ◌∷◌, length, get_or, take, drop, Result, Err, refl, sym, subst, ap, ◌∙◌, arith, take_all}
 use Rattle.std.proofs.lemmas.Bool.Decides.{nat_tests}
 use Rattle.std.proofs.lemmas.List.{length-map}
-use Rattle.schedule_words.specs.Causes.{Gives}
-use Rattle.schedule_words.specs.declared.cause.WordError.{WordError}
-use Rattle.schedule_words.specs.declared.cause.Cause.TheVariants.{Words}
+use Rattle.lexemes.specs.Causes.{Gives}
+use Rattle.lexemes.specs.declared.cause.WordError.{WordError}
+use Rattle.lexemes.specs.declared.cause.Cause.TheVariants.{Words}
 use Rattle.schedule_text.specs.Arguments.{has_empty}
 use Rattle.schedule_text.specs.Events.{call_from, call_named}
 use Rattle.schedule_text.specs.Keywords.{operand_count}

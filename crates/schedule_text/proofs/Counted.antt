@@ -1,8 +1,8 @@
 -- So many words, none of them empty.
 use Rattle.std.proofs.Common.{◌≡◌, ℕ, ◌<◌, ◌==◌, Bool, true, false, if◌then◌else◌, List, [], ◌∷◌, length, Ok, Err, refl, arith}
 use Rattle.std.proofs.lemmas.Bool.Decides.{nat_tests}
-use Rattle.schedule_words.proofs.Results.{ok_same}
-use Rattle.schedule_words.specs.declared.cause.Cause.TheVariants.{Words}
+use Rattle.lexemes.proofs.Results.{ok_same}
+use Rattle.lexemes.specs.declared.cause.Cause.TheVariants.{Words}
 use Rattle.schedule_text.specs.Arguments.{has_empty, none_of, one_of, two_of, three_of, four_of, some_of, first_of}
 
 full : (word : List ℕ) → 0 < length word → (length word == 0) ≡ false

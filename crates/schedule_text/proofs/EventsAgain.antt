@@ -4,11 +4,11 @@ use Rattle.std.specs.Fmt.{decimal}
 use Rattle.ens_base.specs.declared.command.Command.{Command}
 use Rattle.ens_base.specs.declared.command.Command.TheVariants as does
 use Rattle.ens_base.specs.Words.{bytes_word, value_word, version_word}
-use Rattle.schedule_words.specs.Spelling.{AscendFrom, IsAmong, content_word, member_words}
-use Rattle.schedule_words.proofs.Ascending.{members_from-words, view_of-words}
-use Rattle.schedule_words.proofs.Dotted.{number_of-decimal, version_of-word, length-version}
-use Rattle.schedule_words.proofs.Fields.{peer_of-decimal, key_of-word, value_of-word, content_of-word}
-use Rattle.schedule_words.proofs.Joined.{length-decimal, length-encode, length-value, length-content}
+use Rattle.lexemes.specs.Spelling.{AscendFrom, IsAmong, content_word, member_words}
+use Rattle.lexemes.proofs.Ascending.{members_from-words, view_of-words}
+use Rattle.lexemes.proofs.Dotted.{number_of-decimal, version_of-word, length-version}
+use Rattle.lexemes.proofs.Fields.{peer_of-decimal, key_of-word, value_of-word, content_of-word}
+use Rattle.lexemes.proofs.Joined.{length-decimal, length-encode, length-value, length-content}
 use Rattle.schedule_text.specs.Arguments.{has_empty, one_of, two_of, three_of, four_of}
 use Rattle.schedule_text.specs.Events.{operation_of, call_of, words_event}
 use Rattle.schedule_text.specs.Keywords.{command_word, command_of, operand_count, store_of, store_word, survivor_of, survivor_word}

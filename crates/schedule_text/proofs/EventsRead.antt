@@ -8,15 +8,15 @@ use Rattle.ens_base.specs.declared.command.Command.TheVariants as does
 use Rattle.ens_base.specs.Words.{bytes_word, value_word}
 use Rattle.std.specs.Fmt.{decimal}
 use Rattle.ens_base.specs.Results.{◌>>=◌}
-use Rattle.schedule_words.specs.Causes.{or_cause}
-use Rattle.schedule_words.specs.Spelling.{IsAmong, IsContent, content_word}
-use Rattle.schedule_words.specs.Words.{words_of, number_of, peer_of, key_of, value_of, content_of, version_of, members_of, view_of}
-use Rattle.schedule_words.specs.declared.cause.Cause.{Cause}
-use Rattle.schedule_words.specs.declared.cause.Cause.TheVariants.{TooLong, Unknown, Words, Number}
-use Rattle.schedule_words.proofs.Ascending.{members_from-ok, view_of-ok}
-use Rattle.schedule_words.proofs.Dotted.{number_of-ok, version_of-ok}
-use Rattle.schedule_words.proofs.Fields.{peer_of-ok, key_of-ok, value_of-ok, content_of-ok}
-use Rattle.schedule_words.proofs.Results.{bind_ok, ok_same, or_cause_ok}
+use Rattle.lexemes.specs.Causes.{or_cause}
+use Rattle.lexemes.specs.Spelling.{IsAmong, IsContent, content_word}
+use Rattle.lexemes.specs.Words.{words_of, number_of, peer_of, key_of, value_of, content_of, version_of, members_of, view_of}
+use Rattle.lexemes.specs.declared.cause.Cause.{Cause}
+use Rattle.lexemes.specs.declared.cause.Cause.TheVariants.{TooLong, Unknown, Words, Number}
+use Rattle.lexemes.proofs.Ascending.{members_from-ok, view_of-ok}
+use Rattle.lexemes.proofs.Dotted.{number_of-ok, version_of-ok}
+use Rattle.lexemes.proofs.Fields.{peer_of-ok, key_of-ok, value_of-ok, content_of-ok}
+use Rattle.lexemes.proofs.Results.{bind_ok, ok_same, or_cause_ok}
 use Rattle.schedule_text.specs.Arguments.{none_of, one_of, two_of, three_of, four_of, first_of, some_of}
 use Rattle.schedule_text.specs.Events.{operation_of, call_from, call_named, call_of, tick_of, deliver_of, one_peer_of, two_peers_of, calm_of, change_of, placed_of, inner_of, revert_of, fail_of, keyword_event, words_event, event_of}
 use Rattle.schedule_text.specs.Keywords.{command_word, command_of, commands, keyword_of, keyword_word, keywords, store_of, store_word, stores, survivor_of, survivor_word, survivors}

@@ -10,11 +10,11 @@ use Rattle.ens_base.specs.declared.command.Command.TheVariants as does
 use Rattle.ens_base.specs.Words.{bytes_word, value_word, version_word}
 use Rattle.ens_base.specs.declared.epoch.Version.{Version}
 use Rattle.ens_base.specs.Limits.{IsKey, IsValue, IsVersion, IsCommand}
-use Rattle.schedule_words.specs.Spelling.{AreMembers, AscendFrom, IsAmong, IsContent, content_word, member_words}
-use Rattle.schedule_words.specs.Words.{words_of}
-use Rattle.schedule_words.proofs.Dotted.{has-version, length-version, length-version_word-le}
-use Rattle.schedule_words.proofs.Fields.{length-bytes_word, length-value_word-le, length-content_word-le}
-use Rattle.schedule_words.proofs.Joined.{AreWords, has, has-append, has-content, has-decimal, has-encode, has-letters, has-value, length-content, length-decimal, length-encode, length-value, other, parts_of-join}
+use Rattle.lexemes.specs.Spelling.{AreMembers, AscendFrom, IsAmong, IsContent, content_word, member_words}
+use Rattle.lexemes.specs.Words.{words_of}
+use Rattle.lexemes.proofs.Dotted.{has-version, length-version, length-version_word-le}
+use Rattle.lexemes.proofs.Fields.{length-bytes_word, length-value_word-le, length-content_word-le}
+use Rattle.lexemes.proofs.Joined.{AreWords, has, has-append, has-content, has-decimal, has-encode, has-letters, has-value, length-content, length-decimal, length-encode, length-value, other, parts_of-join}
 use Rattle.schedule_text.specs.Events.{event_of, line_limit, words_event}
 use Rattle.schedule_text.specs.Keywords.{command_word, store_word, survivor_word}
 use Rattle.schedule_text.specs.Spelling.{event_line, event_words, name_of, operand_words, MayStand}

@@ -5,7 +5,7 @@ use Rattle.std.proofs.lemmas.Bool.Decides.{nat_tests}
 use Rattle.std.proofs.lemmas.List.Splits.{slice_split_first, slice_split_none}
 use Rattle.std.proofs.lemmas.List.Sums.{fails_before_first}
 use Rattle.std.specs.List.{onto_first, position_or_len}
-use Rattle.schedule_words.specs.Words.{parts_of}
+use Rattle.lexemes.specs.Words.{parts_of}
 use Rattle.schedule_text.specs.Progress.{Progress}
 use Rattle.schedule_text.specs.Reading.{and_then, next_line, read_parts, TakesLine}
 use Rattle.schedule_text.specs.Errors.{Stops}

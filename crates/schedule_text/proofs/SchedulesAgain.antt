@@ -6,11 +6,11 @@ use Rattle.std.specs.Fmt.{decimal}
 use Rattle.ens_base.specs.Lists.{AreDistinct}
 use Rattle.ens_base.specs.View.{IsView}
 use Rattle.ens_base.specs.Results.{◌>>=◌}
-use Rattle.schedule_words.specs.Spelling.{AreMembers, member_words}
-use Rattle.schedule_words.specs.Words.{parts_of, words_of}
-use Rattle.schedule_words.proofs.Ascending.{view_of-words}
-use Rattle.schedule_words.proofs.Dotted.{number_of-decimal}
-use Rattle.schedule_words.proofs.Joined.{AreWords, has, has-decimal, has-letters, length-decimal, parts_of-join, parts_of-more}
+use Rattle.lexemes.specs.Spelling.{AreMembers, member_words}
+use Rattle.lexemes.specs.Words.{parts_of, words_of}
+use Rattle.lexemes.proofs.Ascending.{view_of-words}
+use Rattle.lexemes.proofs.Dotted.{number_of-decimal}
+use Rattle.lexemes.proofs.Joined.{AreWords, has, has-decimal, has-letters, length-decimal, parts_of-join, parts_of-more}
 use Rattle.schedule_text.specs.Events.{line_limit}
 use Rattle.schedule_text.specs.Forms.{ensemble_line}
 use Rattle.schedule_text.specs.Progress.{Progress, Blank, Titled, Counted, Running, lines_so_far, is_repeated}

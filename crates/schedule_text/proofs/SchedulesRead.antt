@@ -10,14 +10,14 @@ use Rattle.std.specs.List.{join_with_byte}
 use Rattle.ens_base.specs.Lists.{same_bytes}
 use Rattle.ens_base.specs.View.{IsView}
 use Rattle.ens_base.specs.Results.{◌>>=◌}
-use Rattle.schedule_words.specs.Causes.{or_cause}
-use Rattle.schedule_words.specs.Spelling.{AreMembers, member_words}
-use Rattle.schedule_words.specs.Words.{number_of, parts_of, view_of, words_of}
-use Rattle.schedule_words.specs.declared.cause.Cause.{Cause}
-use Rattle.schedule_words.specs.declared.cause.Cause.TheVariants.{TooLong, Unfinished, Heading, Repeated}
-use Rattle.schedule_words.proofs.Ascending.{view_of-ok}
-use Rattle.schedule_words.proofs.Dotted.{number_of-ok}
-use Rattle.schedule_words.proofs.Results.{bind_ok, ok_same, or_cause_ok}
+use Rattle.lexemes.specs.Causes.{or_cause}
+use Rattle.lexemes.specs.Spelling.{AreMembers, member_words}
+use Rattle.lexemes.specs.Words.{number_of, parts_of, view_of, words_of}
+use Rattle.lexemes.specs.declared.cause.Cause.{Cause}
+use Rattle.lexemes.specs.declared.cause.Cause.TheVariants.{TooLong, Unfinished, Heading, Repeated}
+use Rattle.lexemes.proofs.Ascending.{view_of-ok}
+use Rattle.lexemes.proofs.Dotted.{number_of-ok}
+use Rattle.lexemes.proofs.Results.{bind_ok, ok_same, or_cause_ok}
 use Rattle.schedule_text.specs.Errors.{at_line}
 use Rattle.schedule_text.specs.Events.{event_of, line_limit}
 use Rattle.schedule_text.specs.Forms.{ensemble_line, form_named, forms}

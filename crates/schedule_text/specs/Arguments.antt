@@ -1,8 +1,8 @@
 -- The words of a line behind its first: so many of them, and none empty.
 use Rattle.std.specs.Prelude.{ℕ, Bool, ◌==◌, if◌then◌else◌, List, [], ◌∷◌, length, Result, Ok, Err}
 use Rattle.std.specs.List.{list_any}
-use Rattle.schedule_words.specs.declared.cause.Cause.{Cause}
-use Rattle.schedule_words.specs.declared.cause.Cause.TheVariants.{Words}
+use Rattle.lexemes.specs.declared.cause.Cause.{Cause}
+use Rattle.lexemes.specs.declared.cause.Cause.TheVariants.{Words}
 
 -- whether a word is empty
 abbrev pub has_empty : List (List ℕ) → Bool

@@ -1,9 +1,9 @@
 -- What is wrong with a line, and what a call answers that may want memory.
 use Rattle.std.specs.Prelude.{◌≡◌, ℕ, Result, Ok, Err}
-use Rattle.schedule_words.specs.Causes.{cause_number}
-use Rattle.schedule_words.specs.declared.cause.Cause.{Cause}
-use Rattle.schedule_words.specs.declared.cause.WordError.{WordError}
-use Rattle.schedule_words.specs.declared.cause.WordError.TheVariants as words
+use Rattle.lexemes.specs.Causes.{cause_number}
+use Rattle.lexemes.specs.declared.cause.Cause.{Cause}
+use Rattle.lexemes.specs.declared.cause.WordError.{WordError}
+use Rattle.lexemes.specs.declared.cause.WordError.TheVariants as words
 use Rattle.schedule_text.specs.declared.error.ScheduleError.{ScheduleError}
 use Rattle.schedule_text.specs.declared.error.ScheduleError.TheVariants.{Bad, Lines, Memory}
 

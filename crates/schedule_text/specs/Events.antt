@@ -3,10 +3,10 @@ use Rattle.std.specs.Prelude.{ℕ, ◌-◌, ◌^◌, not, ◌==◌, ◌||◌, na
 use Rattle.ens_base.specs.declared.command.Command.{Command}
 use Rattle.ens_base.specs.declared.command.Command.TheVariants as does
 use Rattle.ens_base.specs.Results.{◌>>=◌}
-use Rattle.schedule_words.specs.Causes.{or_cause}
-use Rattle.schedule_words.specs.Words.{words_of, number_of, peer_of, key_of, value_of, content_of, version_of, members_of, view_of}
-use Rattle.schedule_words.specs.declared.cause.Cause.{Cause}
-use Rattle.schedule_words.specs.declared.cause.Cause.TheVariants.{TooLong, Unknown, Words, Number}
+use Rattle.lexemes.specs.Causes.{or_cause}
+use Rattle.lexemes.specs.Words.{words_of, number_of, peer_of, key_of, value_of, content_of, version_of, members_of, view_of}
+use Rattle.lexemes.specs.declared.cause.Cause.{Cause}
+use Rattle.lexemes.specs.declared.cause.Cause.TheVariants.{TooLong, Unknown, Words, Number}
 use Rattle.schedule_text.specs.Arguments.{has_empty, none_of, one_of, two_of, three_of, four_of, first_of, some_of}
 use Rattle.schedule_text.specs.Keywords.{keyword_of, command_of, operand_count, store_of, survivor_of}
 use Rattle.schedule_text.specs.declared.keyword.Keyword.{Keyword}

@@ -1,9 +1,9 @@
 -- How far the reading of a schedule has come.
 use Rattle.std.specs.Prelude.{◌≡◌, ℕ, ◌+◌, ◌≤◌, Bool, true, false, ◌==◌, List, [], ◌∷◌, ◌++◌, length, Result, Ok, Err}
 use Rattle.std.specs.List.{list_any}
-use Rattle.schedule_words.specs.declared.cause.Cause.TheVariants.{Repeated}
-use Rattle.schedule_words.specs.declared.cause.WordError.{WordError}
-use Rattle.schedule_words.specs.declared.cause.WordError.TheVariants.{Bad, Memory}
+use Rattle.lexemes.specs.declared.cause.Cause.TheVariants.{Repeated}
+use Rattle.lexemes.specs.declared.cause.WordError.{WordError}
+use Rattle.lexemes.specs.declared.cause.WordError.TheVariants.{Bad, Memory}
 use Rattle.schedule_text.specs.declared.event.ScheduleEvent.{ScheduleEvent}
 use Rattle.schedule_text.specs.declared.event.ScheduleEvent.TheVariants.{Call}
 use Rattle.schedule_text.specs.declared.form.Form.{Form}

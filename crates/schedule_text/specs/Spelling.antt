@@ -8,7 +8,7 @@ use Rattle.ens_base.specs.View.{IsView}
 use Rattle.ens_base.specs.Words.{bytes_word, value_word, version_word}
 use Rattle.ens_base.specs.declared.command.Command.{Command}
 use Rattle.ens_base.specs.declared.command.Command.TheVariants as does
-use Rattle.schedule_words.specs.Spelling.{AreMembers, IsAmong, IsContent, content_word, member_words}
+use Rattle.lexemes.specs.Spelling.{AreMembers, IsAmong, IsContent, content_word, member_words}
 use Rattle.schedule_text.specs.Forms.{ensemble_line}
 use Rattle.schedule_text.specs.Keywords.{keyword_word, command_word, store_word, survivor_word}
 use Rattle.schedule_text.specs.Writing.{feeds}

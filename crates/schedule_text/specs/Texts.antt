@@ -1,7 +1,7 @@
 -- Words in memory, as the bytes that they are.
 use Rattle.std.specs.Prelude.{ℕ, List, map, Result, Ok, Err}
 use Rattle.std.specs.Borrow.{Bor}
-use Rattle.schedule_words.specs.declared.cause.Cause.{Cause}
+use Rattle.lexemes.specs.declared.cause.Cause.{Cause}
 
 -- a word in memory
 abbrev pub Word : Type 0

@@ -2,7 +2,7 @@ ghost use Rattle.std.specs.Prelude.{◌≡◌};
 ghost use Rattle.schedule_text.specs.Arguments.{has_empty, none_of, one_of, two_of, three_of, four_of, some_of, first_of};
 ghost use Rattle.schedule_text.specs.Texts.{texts, one_text, two_texts, three_texts, four_texts, some_texts, first_texts};
 
-use schedule_words::Cause;
+use lexemes::Cause;
 
 // Whether a word is empty.
 pub(crate) fn has_empty(words: &[&[u8]]) -> bool

@@ -1,5 +1,5 @@
 ghost use Rattle.std.specs.Prelude.{◌<◌};
-ghost use Rattle.schedule_words.specs.Causes.{Gives};
+ghost use Rattle.lexemes.specs.Causes.{Gives};
 ghost use Rattle.schedule_text.specs.Texts.{texts};
 ghost use Rattle.schedule_text.specs.Events.{operation_of, call_from, call_named, call_of};
 
@@ -7,7 +7,7 @@ use crate::arguments::{has_empty, none, one, two};
 use crate::event::ScheduleEvent;
 use crate::keyword::CommandName;
 use ens_base::Command;
-use schedule_words::{Cause, WordError, key, number, peer, value, version};
+use lexemes::{Cause, WordError, key, number, peer, value, version};
 use std::alloc::Global;
 
 // The command of this name, from the words behind its key.

@@ -2,7 +2,7 @@ ghost use Rattle.std.specs.Prelude.{◌≡◌};
 ghost use Rattle.schedule_text.specs.Errors.{error_at};
 
 use ens_base::MAX_LINES;
-use schedule_words::{Cause, WordError};
+use lexemes::{Cause, WordError};
 use std::error::Error;
 use std::fmt;
 

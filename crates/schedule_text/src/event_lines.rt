@@ -1,9 +1,24 @@
 ghost use Rattle.std.specs.Prelude.{◌≡◌, ◌-◌, ◌<◌, ◌≤◌, ◌^◌, Option, Ok, IfOk};
-ghost use Rattle.schedule_words.specs.Causes.{Gives};
+ghost use Rattle.lexemes.specs.Causes.{Gives};
 ghost use Rattle.schedule_text.specs.Errors.{Answers, at_line};
 ghost use Rattle.schedule_text.specs.Spelling.{event_line, MayStand};
 ghost use Rattle.schedule_text.specs.Texts.{texts};
-ghost use Rattle.schedule_text.specs.Events.{tick_of, deliver_of, one_peer_of, two_peers_of, calm_of, change_of, placed_of, inner_of, revert_of, deepen_of, fail_of, keyword_event, words_event, event_of};
+ghost use Rattle.schedule_text.specs.Events.{
+  tick_of,
+  deliver_of,
+  one_peer_of,
+  two_peers_of,
+  calm_of,
+  change_of,
+  placed_of,
+  inner_of,
+  revert_of,
+  deepen_of,
+  fail_of,
+  keyword_event,
+  words_event,
+  event_of,
+};
 
 use crate::arguments::{first, four, none, one, some, three, two};
 use crate::call_line::call;
@@ -11,7 +26,7 @@ use crate::error::ScheduleError;
 use crate::event::ScheduleEvent;
 use crate::keyword::{Keyword, StoreName, Survivor};
 use ens_base::{Bytes, Key, MAX_LINE_BYTES, PeerId};
-use schedule_words::{Cause, WordError, content, key, line_words, members, number, peer, view};
+use lexemes::{Cause, WordError, content, key, line_words, members, number, peer, view};
 use std::alloc::Global;
 
 // P N

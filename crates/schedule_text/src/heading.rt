@@ -1,11 +1,11 @@
 ghost use Rattle.std.specs.Prelude.{◌≡◌};
-ghost use Rattle.schedule_words.specs.Causes.{Gives};
-ghost use Rattle.schedule_words.specs.Words.{words_of};
+ghost use Rattle.lexemes.specs.Causes.{Gives};
+ghost use Rattle.lexemes.specs.Words.{words_of};
 ghost use Rattle.schedule_text.specs.Reading.{peers_of, opening_of};
 ghost use Rattle.schedule_text.specs.Texts.{texts};
 
 use ens_base::View;
-use schedule_words::{Cause, WordError, line_words, number, view};
+use lexemes::{Cause, WordError, line_words, number, view};
 use std::alloc::Global;
 
 // What the second line says.

@@ -6,7 +6,7 @@ ghost use Rattle.schedule_text.specs.Progress.{Logs, is_call};
 
 use crate::event::ScheduleEvent;
 use ens_base::Seq;
-use schedule_words::{Cause, WordError};
+use lexemes::{Cause, WordError};
 use std::alloc::Global;
 use std::collections::BTreeSet;
 

@@ -1,5 +1,5 @@
 ghost use Rattle.std.specs.Prelude.{◌≡◌, ◌==◌, ◌<◌, ◌∷◌, [], length, position, IfOk, MatchOption};
-ghost use Rattle.schedule_words.specs.Words.{parts_of};
+ghost use Rattle.lexemes.specs.Words.{parts_of};
 ghost use Rattle.schedule_text.specs.Errors.{Answers};
 ghost use Rattle.schedule_text.specs.Reading.{schedule_of};
 ghost use Rattle.schedule_text.specs.Spelling.{schedule_text, IsSchedule};

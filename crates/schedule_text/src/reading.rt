@@ -11,7 +11,7 @@ use crate::log::Log;
 use crate::schedule::Schedule;
 use crate::stage::Stage;
 use ens_base::{MAX_LINE_BYTES, MAX_LINES};
-use schedule_words::{Cause, WordError};
+use lexemes::{Cause, WordError};
 use std::alloc::Global;
 use std::marker::Model;
 

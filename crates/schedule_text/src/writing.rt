@@ -1,7 +1,7 @@
 ghost use Rattle.std.specs.Prelude.{◌≡◌, ◌++◌, ◌∷◌, [], map, OnOk, IfOk, IfErr, string_bytes};
 ghost use Rattle.std.specs.Fmt.{decimal};
 ghost use Rattle.ens_base.specs.Words.{bytes_word, value_word, version_word};
-ghost use Rattle.schedule_words.specs.Spelling.{content_word, member_words};
+ghost use Rattle.lexemes.specs.Spelling.{content_word, member_words};
 ghost use Rattle.schedule_text.specs.Spelling.{name_of, operand_words, argument_words, event_line, peers_line, view_line, schedule_text, IsSchedule};
 ghost use Rattle.schedule_text.specs.Forms.{ensemble_line};
 ghost use Rattle.schedule_text.specs.Reading.{schedule_of};

@@ -7,8 +7,8 @@ use Rattle.slot_disk.specs.Crash.{overlaid, written, Torn}
 use Rattle.slot_disk.specs.Images.{filled, partly_written}
 
 -- zeros after the file, up to the place
-front : (old : List ℕ) (at n : ℕ) → take at (old ++ replicate (at + n - length old) 0) ≡ take at old ++ replicate (at - length old) 0
-front old at n = by (cases_lt at (length old))
+prefix : (old : List ℕ) (at n : ℕ) → take at (old ++ replicate (at + n - length old) 0) ≡ take at old ++ replicate (at - length old) 0
+prefix old at n = by (cases_lt at (length old))
   where
     zeros : List ℕ
     zeros = replicate (at + n - length old) 0
@@ -38,7 +38,7 @@ back old end = by (cases_lt (length old) end)
 overlaid_over : (old : List ℕ) (at : ℕ) (bytes : List ℕ)
     → take at (old ++ replicate (at + length bytes - length old) 0) ++ bytes ++ drop (at + length bytes) (old ++ replicate (at + length bytes - length old) 0) ≡ overlaid old at bytes
 overlaid_over old at bytes =
-    ap (λ (l : List ℕ). l ++ bytes ++ drop (at + length bytes) (old ++ replicate (at + length bytes - length old) 0)) (front old at (length bytes))
+    ap (λ (l : List ℕ). l ++ bytes ++ drop (at + length bytes) (old ++ replicate (at + length bytes - length old) 0)) (prefix old at (length bytes))
     ∙ ap (λ (l : List ℕ). (take at old ++ replicate (at - length old) 0) ++ bytes ++ l) (back old (at + length bytes))
 
 pub written_over : (old : List ℕ) (at : ℕ) (bytes : List ℕ) → 0 < length bytes
@@ -54,8 +54,8 @@ nothing_written old at (byte ∷ bytes) none = absurd (omega (arith, none))
 pub torn_part : (old bytes : List ℕ) (at n part : ℕ) → 0 < n → part ≤ n → length bytes ≡ part
     → Torn at n old (take at (old ++ replicate (at + n - length old) 0) ++ bytes ++ drop (at + part) (old ++ replicate (at + n - length old) 0))
 torn_part old bytes at n part some le size = record {
-  before = take-append-le m (take at full ++ bytes) rest (omega (arith, length-append (take at full) bytes, front_long))
-      ∙ take-append-le m (take at full) bytes (omega (arith, front_long))
+  before = take-append-le m (take at full ++ bytes) rest (omega (arith, length-append (take at full) bytes, prefix_long))
+      ∙ take-append-le m (take at full) bytes (omega (arith, prefix_long))
       ∙ take-take m at full (omega arith)
       ∙ take-append-le m old zeros (omega arith);
   after = behind;
@@ -79,11 +79,11 @@ torn_part old bytes at n part some le size = record {
     whole : length full ≡ length old + (at + n - length old)
     whole = omega (arith, length-append old zeros, length-replicate {A = ℕ} (at + n - length old) 0)
 
-    front_long : length (take at full) ≡ at
-    front_long = omega (arith, length-take at full, whole)
+    prefix_long : length (take at full) ≡ at
+    prefix_long = omega (arith, length-take at full, whole)
 
     done_long : length (take at full ++ bytes) ≡ at + part
-    done_long = omega (arith, length-append (take at full) bytes, front_long, size)
+    done_long = omega (arith, length-append (take at full) bytes, prefix_long, size)
 
     long : length ((take at full ++ bytes) ++ rest) ≡ length full
     long = omega (arith, length-append (take at full ++ bytes) rest, done_long, length-drop (at + part) full, whole, le)

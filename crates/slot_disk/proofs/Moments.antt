@@ -1,8 +1,7 @@
 -- What a crash leaves after one more call of a disk that records its calls.
 use Rattle.std.proofs.Common.{◌≡◌, ◌⊎◌, inl, inr, ℕ, ◌+◌, ◌<◌, ◌≤◌, List, [], ◌∷◌, ◌++◌, length, take, reverse, refl, sym, ◌∙◌, ap, subst, arith, length-append}
-use Rattle.std.proofs.lemmas.List.{take_all, take-append-le}
+use Rattle.std.proofs.lemmas.List.{take_all, take-append-le, reverse-append}
 use Rattle.std.proofs.lemmas.Bool.{cases_lt}
-use Rattle.std.proofs.lemmas.List.{reverse-append}
 use Rattle.slot_disk.specs.Crash.{written, Cut, Elapses}
 use Rattle.slot_disk.specs.Images.{new_part, partly_written, cut_in, image_after, image_of, Advances, IsReplayed}
 use Rattle.slot_disk.specs.declared.image.Image.{Image}

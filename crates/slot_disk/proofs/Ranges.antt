@@ -5,7 +5,7 @@ use Rattle.std.proofs.lemmas.Bool.{cases_lt}
 use Rattle.slot_disk.specs.Crash.{written, Torn, LeavesOnly, IsOn}
 use Rattle.slot_disk.specs.Slots.{start, shut, shut_at, body}
 use Rattle.slot_disk.specs.Saving.{with_gate_closed}
-use Rattle.slot_disk.specs.Outcomes.{length-front, torn_whole}
+use Rattle.slot_disk.specs.Outcomes.{length-prefix, torn_whole}
 use Rattle.slot_disk.specs.declared.slot.Slot.{Slot}
 use Rattle.slot_disk.proofs.SlotFiles.{torn_before, torn_behind}
 use Rattle.slot_disk.proofs.Saves.{length-body}
@@ -56,46 +56,46 @@ module _ {D : Type 0} (seen : D → Option (List ℕ)) (may_leave : D → List �
   }
 
 -- a write behind the front of a file
-written_behind : (front rest xs : List ℕ) (at : ℕ) → length front ≡ at → written (front ++ rest) at xs ≡ (front ++ xs) ++ drop (length xs) rest
-written_behind front rest [] at size = ap (λ (l : List ℕ). l ++ rest) (sym (append-nil front))
-written_behind front rest (byte ∷ bytes) at size =
-    ap (λ (l : List ℕ). (l ++ (byte ∷ bytes)) ++ drop (at + length (byte ∷ bytes)) (front ++ rest)) begins
-    ∙ ap (λ (l : List ℕ). (front ++ (byte ∷ bytes)) ++ l) ends
+written_behind : (prefix rest xs : List ℕ) (at : ℕ) → length prefix ≡ at → written (prefix ++ rest) at xs ≡ (prefix ++ xs) ++ drop (length xs) rest
+written_behind prefix rest [] at size = ap (λ (l : List ℕ). l ++ rest) (sym (append-nil prefix))
+written_behind prefix rest (byte ∷ bytes) at size =
+    ap (λ (l : List ℕ). (l ++ (byte ∷ bytes)) ++ drop (at + length (byte ∷ bytes)) (prefix ++ rest)) begins
+    ∙ ap (λ (l : List ℕ). (prefix ++ (byte ∷ bytes)) ++ l) ends
   where
-    none : at - length (front ++ rest) ≡ 0
-    none = omega (arith, size, length-append front rest)
+    none : at - length (prefix ++ rest) ≡ 0
+    none = omega (arith, size, length-append prefix rest)
 
-    begins : take at (front ++ rest) ++ replicate (at - length (front ++ rest)) 0 ≡ front
-    begins = ap (λ (n : ℕ). take at (front ++ rest) ++ replicate n 0) none ∙ append-nil (take at (front ++ rest)) ∙ take_at front rest at size
+    begins : take at (prefix ++ rest) ++ replicate (at - length (prefix ++ rest)) 0 ≡ prefix
+    begins = ap (λ (n : ℕ). take at (prefix ++ rest) ++ replicate n 0) none ∙ append-nil (take at (prefix ++ rest)) ∙ take_at prefix rest at size
 
-    ends : drop (at + length (byte ∷ bytes)) (front ++ rest) ≡ drop (length (byte ∷ bytes)) rest
-    ends = sym (drop-drop (length (byte ∷ bytes)) at (front ++ rest)) ∙ ap (λ (l : List ℕ). drop (length (byte ∷ bytes)) l) (drop_at front rest at size)
+    ends : drop (at + length (byte ∷ bytes)) (prefix ++ rest) ≡ drop (length (byte ∷ bytes)) rest
+    ends = sym (drop-drop (length (byte ∷ bytes)) at (prefix ++ rest)) ∙ ap (λ (l : List ℕ). drop (length (byte ∷ bytes)) l) (drop_at prefix rest at size)
 
 -- the body behind a gate, and then the gate
-opened : (front rest xs : List ℕ) (gate at : ℕ) → length front ≡ at → written (written (front ++ gate ∷ rest) (at + 1) xs) at (1 ∷ []) ≡ (front ++ 1 ∷ xs) ++ drop (length xs) rest
-opened front rest xs gate at size =
-    ap (λ (l : List ℕ). written (written l (at + 1) xs) at (1 ∷ [])) (sym (append_assoc front (gate ∷ []) rest))
-    ∙ ap (λ (l : List ℕ). written l at (1 ∷ [])) (written_behind (front ++ gate ∷ []) rest xs (at + 1) longer)
-    ∙ ap (λ (l : List ℕ). written l at (1 ∷ [])) (ap (λ (l : List ℕ). l ++ last) (append_assoc front (gate ∷ []) xs) ∙ append_assoc front (gate ∷ xs) last)
-    ∙ written_behind front (gate ∷ xs ++ last) (1 ∷ []) at size
-    ∙ append_assoc front (1 ∷ []) (xs ++ last)
-    ∙ sym (append_assoc front (1 ∷ xs) last)
+opened : (prefix rest xs : List ℕ) (gate at : ℕ) → length prefix ≡ at → written (written (prefix ++ gate ∷ rest) (at + 1) xs) at (1 ∷ []) ≡ (prefix ++ 1 ∷ xs) ++ drop (length xs) rest
+opened prefix rest xs gate at size =
+    ap (λ (l : List ℕ). written (written l (at + 1) xs) at (1 ∷ [])) (sym (append_assoc prefix (gate ∷ []) rest))
+    ∙ ap (λ (l : List ℕ). written l at (1 ∷ [])) (written_behind (prefix ++ gate ∷ []) rest xs (at + 1) longer)
+    ∙ ap (λ (l : List ℕ). written l at (1 ∷ [])) (ap (λ (l : List ℕ). l ++ last) (append_assoc prefix (gate ∷ []) xs) ∙ append_assoc prefix (gate ∷ xs) last)
+    ∙ written_behind prefix (gate ∷ xs ++ last) (1 ∷ []) at size
+    ∙ append_assoc prefix (1 ∷ []) (xs ++ last)
+    ∙ sym (append_assoc prefix (1 ∷ xs) last)
   where
     last : List ℕ
     last = drop (length xs) rest
 
-    longer : length (front ++ gate ∷ []) ≡ at + 1
-    longer = omega (arith, size, length-append front (gate ∷ []))
+    longer : length (prefix ++ gate ∷ []) ≡ at + 1
+    longer = omega (arith, size, length-append prefix (gate ∷ []))
 
-abbrev front_of : List ℕ → ℕ → List ℕ
-front_of file at = take at file ++ replicate (at - length file) 0
+abbrev prefix_of : List ℕ → ℕ → List ℕ
+prefix_of file at = take at file ++ replicate (at - length file) 0
 
 -- the whole slot in one write
-whole : (file mid xs : List ℕ) (gate at : ℕ) → mid ≡ front_of file at ++ gate ∷ drop (at + 1) file → written (written mid (at + 1) xs) at (1 ∷ []) ≡ written file at (1 ∷ xs)
+whole : (file mid xs : List ℕ) (gate at : ℕ) → mid ≡ prefix_of file at ++ gate ∷ drop (at + 1) file → written (written mid (at + 1) xs) at (1 ∷ []) ≡ written file at (1 ∷ xs)
 whole file mid xs gate at is =
     ap (λ (l : List ℕ). written (written l (at + 1) xs) at (1 ∷ [])) is
-    ∙ opened (front_of file at) (drop (at + 1) file) xs gate at (length-front file at)
-    ∙ ap (λ (l : List ℕ). (front_of file at ++ 1 ∷ xs) ++ l) (drop-drop (length xs) (at + 1) file ∙ ap (λ (n : ℕ). drop n file) (let e : at + 1 + length xs ≡ at + length (1 ∷ xs) = omega arith in e))
+    ∙ opened (prefix_of file at) (drop (at + 1) file) xs gate at (length-prefix file at)
+    ∙ ap (λ (l : List ℕ). (prefix_of file at ++ 1 ∷ xs) ++ l) (drop-drop (length xs) (at + 1) file ∙ ap (λ (n : ℕ). drop n file) (let e : at + 1 + length xs ≡ at + length (1 ∷ xs) = omega arith in e))
 
 shut_long : (file : List ℕ) (at : ℕ) → shut (drop at file) ≡ true → at < length file
 shut_long file at closed = by (cases_lt at (length file))
@@ -108,19 +108,19 @@ shut_long file at closed = by (cases_lt at (length file))
     by (inr le) = absurd (never (sym (ap shut (drop_all at file le)) ∙ closed))
 
 -- a gate that is present
-present : (file : List ℕ) (at : ℕ) → at < length file → (gate : ℕ) × (file ≡ front_of file at ++ gate ∷ drop (at + 1) file)
+present : (file : List ℕ) (at : ℕ) → at < length file → (gate : ℕ) × (file ≡ prefix_of file at ++ gate ∷ drop (at + 1) file)
 present file at lt = by (drop at file) refl
   where
-    front_is : take at file ≡ front_of file at
-    front_is = sym (ap (λ (n : ℕ). take at file ++ replicate n 0) (let e : at - length file ≡ 0 = omega arith in e) ∙ append-nil (take at file))
+    prefix_is : take at file ≡ prefix_of file at
+    prefix_is = sym (ap (λ (n : ℕ). take at file ++ replicate n 0) (let e : at - length file ≡ 0 = omega arith in e) ∙ append-nil (take at file))
 
-    by : (l : List ℕ) → drop at file ≡ l → (gate : ℕ) × (file ≡ front_of file at ++ gate ∷ drop (at + 1) file)
+    by : (l : List ℕ) → drop at file ≡ l → (gate : ℕ) × (file ≡ prefix_of file at ++ gate ∷ drop (at + 1) file)
     by [] is = absurd (omega (arith, lt, length-take at file, ap length (take-append-drop at file), ap length is, length-append (take at file) (drop at file)))
     by (gate ∷ rest) is =
         let behind : rest ≡ drop (at + 1) file = ap (λ (l : List ℕ). drop 1 l) (sym is) ∙ drop-drop 1 at file in
-        (gate, sym (take-append-drop at file) ∙ ap (λ (l : List ℕ). l ++ drop at file) front_is ∙ ap (λ (l : List ℕ). front_of file at ++ l) (is ∙ ap (λ (l : List ℕ). gate ∷ l) behind))
+        (gate, sym (take-append-drop at file) ∙ ap (λ (l : List ℕ). l ++ drop at file) prefix_is ∙ ap (λ (l : List ℕ). prefix_of file at ++ l) (is ∙ ap (λ (l : List ℕ). gate ∷ l) behind))
 
 -- the three writes of a save make one slot
 pub slot_in_one : (file xs : List ℕ) (s : Slot) (is_shut : Bool) → is_shut ≡ shut_at file s → written (written (with_gate_closed file s is_shut) (start s + 1) xs) (start s) (1 ∷ []) ≡ written file (start s) (1 ∷ xs)
 slot_in_one file xs s true gate = let there = present file (start s) (shut_long file (start s) (sym gate)) in whole file file xs there.0 (start s) there.1
-slot_in_one file xs s false gate = whole file (written file (start s) (0 ∷ [])) xs 0 (start s) (append_assoc (front_of file (start s)) (0 ∷ []) (drop (start s + 1) file))
+slot_in_one file xs s false gate = whole file (written file (start s) (0 ∷ [])) xs 0 (start s) (append_assoc (prefix_of file (start s)) (0 ∷ []) (drop (start s + 1) file))

@@ -107,11 +107,11 @@ slot_spelled serial bytes rest small short =
         grind (arith, seam, fits, fits_too)
 
 -- the gate is the first byte
-pub shut_front : (xs ys : List ℕ) → take 1 xs ≡ take 1 ys → shut xs ≡ shut ys
-shut_front [] [] is = refl
-shut_front [] (y ∷ ys) is = absurd (empty_is_full y is)
-shut_front (x ∷ xs) [] is = absurd (empty_is_full x (sym is))
-shut_front (x ∷ xs) (y ∷ ys) is = ap (λ (l : List ℕ). shut l) is
+pub shut_prefix : (xs ys : List ℕ) → take 1 xs ≡ take 1 ys → shut xs ≡ shut ys
+shut_prefix [] [] is = refl
+shut_prefix [] (y ∷ ys) is = absurd (empty_is_full y is)
+shut_prefix (x ∷ xs) [] is = absurd (empty_is_full x (sym is))
+shut_prefix (x ∷ xs) (y ∷ ys) is = ap (λ (l : List ℕ). shut l) is
 
 pub slot_open : (bytes : List ℕ) (s : ℕ × List ℕ) → slot bytes ≡ Some s → shut bytes ≡ false
 slot_open bytes s is = by (shut bytes) refl

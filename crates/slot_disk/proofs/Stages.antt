@@ -8,17 +8,17 @@ use Rattle.slot_disk.specs.Slots.{IsSaved, start, slot, shut, slot_at, shut_at, 
 use Rattle.slot_disk.specs.declared.slot.Slot.{Slot}
 use Rattle.slot_disk.specs.declared.slot.Slot.TheVariants.{A, B}
 use Rattle.slot_disk.specs.Saving.{IsKept, IsClosed}
-use Rattle.slot_disk.proofs.SlotBytes.{slot_open, slot_shut, slot_gate, slot_spelled, shut_front}
+use Rattle.slot_disk.proofs.SlotBytes.{slot_open, slot_shut, slot_gate, slot_spelled, shut_prefix}
 use Rattle.slot_disk.proofs.SlotFiles.{torn_behind, torn_before, first_kept, first_current, newer_without_a, newer_without_b, newer_with_a, newer_with_b}
-use Rattle.slot_disk.specs.Outcomes.{torn_whole, length-front}
+use Rattle.slot_disk.specs.Outcomes.{torn_whole, length-prefix}
 
 -- the bytes from the place of a write on
 drop-written : (old : List ℕ) (at : ℕ) (bytes : List ℕ) → drop at (written old at bytes) ≡ bytes ++ drop (at + length bytes) old
 drop-written old at [] = ap (λ (n : ℕ). drop n old) (let e : at ≡ at + 0 = omega arith in e)
 drop-written old at (byte ∷ rest) =
     let bytes = byte ∷ rest in
-    let front = take at old ++ replicate (at - length old) 0 in
-    ap (λ (l : List ℕ). drop at l) (append_assoc front bytes (drop (at + length bytes) old)) ∙ drop_at front (bytes ++ drop (at + length bytes) old) at (length-front old at)
+    let prefix = take at old ++ replicate (at - length old) 0 in
+    ap (λ (l : List ℕ). drop at l) (append_assoc prefix bytes (drop (at + length bytes) old)) ∙ drop_at prefix (bytes ++ drop (at + length bytes) old) at (length-prefix old at)
 
 -- after a crash during a write of the gate: the slot holds nothing, or what an open gate shows
 torn_gate : (at : ℕ) (old new : List ℕ) → Torn at 1 old new → (slot (drop at new) ≡ None) ⊎ (slot (drop at new) ≡ slot (1 ∷ drop (at + 1) old))
@@ -39,7 +39,7 @@ torn_body at n old new torn closed = by (cases_lt at (length old))
     by (inl within) =
         let same : take 1 (drop at new) ≡ take 1 (drop at old) =
         sym (drop-take at 1 new) ∙ ap (λ (l : List ℕ). drop at l) (torn_before (at + 1) (at + 1) n old new torn (omega arith)) ∙ drop-take at 1 old in
-        shut_front (drop at new) (drop at old) same ∙ closed
+        shut_prefix (drop at new) (drop at old) same ∙ closed
     by (inr le) = absurd (false_is_true (sym (ap shut (drop_all at old le)) ∙ closed))
       where
         false_is_true : false ≡ true → ⊥

@@ -19,10 +19,10 @@ pub record Torn (at n : ℕ) (old new : List ℕ) : Type 0 where
   pub no_longer : length new ≤ max (length old) (at + n)
   pub nothing : n ≡ 0 → new ≡ old
 
--- after a crash during or after a cut to n bytes: a front of the file, not shorter than the cut one
+-- after a crash during or after a cut to n bytes: a prefix of the file, not shorter than the cut one
 pub record Cut (n : ℕ) (old new : List ℕ) : Type 0 where
   pub no_shorter : min n (length old) ≤ length new
-  pub front : take (length new) old ≡ new
+  pub prefix : take (length new) old ≡ new
 
 -- each new outcome of a crash is an old outcome followed by this step
 abbrev pub Follows : (List ℕ → List ℕ → Type 0) → (List ℕ → Type 0) → (List ℕ → Type 0) → Type 0

@@ -5,11 +5,11 @@ use Rattle.std.proofs.lemmas.Bool.{cases_lt}
 use Rattle.slot_disk.specs.Crash.{overlaid, written, Torn, Cut}
 use Rattle.slot_disk.specs.Steps.{Deed, Wrote, CutTo, Synced, seen_of, IsImage, Leaves}
 
-pub length-front : (old : List ℕ) (at : ℕ) → length (take at old ++ replicate (at - length old) 0) ≡ at
-length-front old at = omega (arith, length-append (take at old) (replicate (at - length old) 0), length-take at old, length-replicate {A = ℕ} (at - length old) 0)
+pub length-prefix : (old : List ℕ) (at : ℕ) → length (take at old ++ replicate (at - length old) 0) ≡ at
+length-prefix old at = omega (arith, length-append (take at old) (replicate (at - length old) 0), length-take at old, length-replicate {A = ℕ} (at - length old) 0)
 
 length-put : (old : List ℕ) (at : ℕ) (bytes : List ℕ) → length ((take at old ++ replicate (at - length old) 0) ++ bytes) ≡ at + length bytes
-length-put old at bytes = omega (arith, length-append (take at old ++ replicate (at - length old) 0) bytes, length-front old at)
+length-put old at bytes = omega (arith, length-append (take at old ++ replicate (at - length old) 0) bytes, length-prefix old at)
 
 pub length-overlaid : (old : List ℕ) (at : ℕ) (bytes : List ℕ) → length (overlaid old at bytes) ≡ at + length bytes + (length old - (at + length bytes))
 length-overlaid old at bytes = omega (arith, length-append ((take at old ++ replicate (at - length old) 0) ++ bytes) (drop (at + length bytes) old), length-put old at bytes, length-drop (at + length bytes) old)
@@ -19,7 +19,7 @@ pub torn_whole : (old : List ℕ) (at : ℕ) (bytes : List ℕ) → Torn at (len
 torn_whole old at [] = record { before = refl; after = refl; no_shorter = omega arith; no_longer = omega arith; nothing = λ e. refl }
 torn_whole old at (byte ∷ rest) = let bytes = byte ∷ rest in record {
   before = take-append-le (min at (length old)) ((take at old ++ replicate (at - length old) 0) ++ bytes) (drop (at + length bytes) old) (omega (arith, length-put old at bytes))
-      ∙ take-append-le (min at (length old)) (take at old ++ replicate (at - length old) 0) bytes (omega (arith, length-front old at))
+      ∙ take-append-le (min at (length old)) (take at old ++ replicate (at - length old) 0) bytes (omega (arith, length-prefix old at))
       ∙ take-append-le (min at (length old)) (take at old) (replicate (at - length old) 0) (omega (arith, length-take at old))
       ∙ take-take (min at (length old)) at old (omega arith);
   after = drop_at ((take at old ++ replicate (at - length old) 0) ++ bytes) (drop (at + length bytes) old) (at + length bytes) (length-put old at bytes);
@@ -29,7 +29,7 @@ torn_whole old at (byte ∷ rest) = let bytes = byte ∷ rest in record {
 }
 
 pub cut_whole : (old : List ℕ) (n : ℕ) → Cut n old (take n old)
-cut_whole old n = record { no_shorter = omega (arith, length-take n old); front = ends (cases_lt (length old) n) }
+cut_whole old n = record { no_shorter = omega (arith, length-take n old); prefix = ends (cases_lt (length old) n) }
   where
     ends : (length old < n) ⊎ (n ≤ length old) → take (length (take n old)) old ≡ take n old
     ends (inl past) = ap (λ (l : List ℕ). take (length l) old) (take_all n old (omega arith)) ∙ take_all (length old) old (omega arith) ∙ sym (take_all n old (omega arith))
@@ -37,7 +37,7 @@ cut_whole old n = record { no_shorter = omega (arith, length-take n old); front 
 
 -- a cut may not have been done
 pub cut_none : (old : List ℕ) (n : ℕ) → Cut n old old
-cut_none old n = record { no_shorter = omega arith; front = take_all (length old) old (omega arith) }
+cut_none old n = record { no_shorter = omega arith; prefix = take_all (length old) old (omega arith) }
 
 -- the file that a read returns is one of the outcomes too
 pub seen_is_image : (first : List ℕ) (all : List Deed) → IsImage first all (seen_of first all)

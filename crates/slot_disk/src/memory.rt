@@ -273,7 +273,9 @@ impl Disk for MemDisk {
         ensures size { IfOk result (λ n. Told (Some self.old.file.items) (λ bytes. n ≡ length bytes)) }
         ensures seen { Stay (Some self.old.file.items) (Some self.new.file.items) }
         ensures crash { (c : List ℕ) → Leaves self.new.first.items (history self.new) c → Leaves self.old.first.items (history self.old) c }
-        ensures time { Elapses (length (history self.old)) (length (history self.new)) (LeftSince self.old.first.items (history self.old)) (LeftSince self.new.first.items (history self.new)) (Leaves self.new.first.items (history self.new)) }
+        ensures time { Elapses (length (history self.old)) (length (history self.new))
+            (LeftSince self.old.first.items (history self.old)) (LeftSince self.new.first.items (history self.new))
+            (Leaves self.new.first.items (history self.new)) }
         ensures cause { CountsFaults self.old.faults self.new.faults result }
         // Exactly the listed calls fail.
         ensures works { OnOk result (fate_next self.old ≡ Works) }
@@ -293,7 +295,9 @@ impl Disk for MemDisk {
         ensures bytes { IfOk result (λ n. Told (Some self.old.file.items) (λ bytes. (n ≡ min (length buf.new) (length bytes - at)) × (take n buf.new ≡ take n (drop at bytes)))) }
         ensures seen { Stay (Some self.old.file.items) (Some self.new.file.items) }
         ensures crash { (c : List ℕ) → Leaves self.new.first.items (history self.new) c → Leaves self.old.first.items (history self.old) c }
-        ensures time { Elapses (length (history self.old)) (length (history self.new)) (LeftSince self.old.first.items (history self.old)) (LeftSince self.new.first.items (history self.new)) (Leaves self.new.first.items (history self.new)) }
+        ensures time { Elapses (length (history self.old)) (length (history self.new))
+            (LeftSince self.old.first.items (history self.old)) (LeftSince self.new.first.items (history self.new))
+            (Leaves self.new.first.items (history self.new)) }
         ensures cause { CountsFaults self.old.faults self.new.faults result }
         // Exactly the listed calls fail.
         ensures works { OnOk result (fate_next self.old ≡ Works) }
@@ -315,7 +319,9 @@ impl Disk for MemDisk {
         ensures written { OnOk result (Told (Some self.old.file.items) (λ old. Some self.new.file.items ≡ Some (written old at bytes.now))) }
         ensures failed { OnErr result (Told (Some self.old.file.items) (λ old. SeenIn (λ m. Some m.file.items) self.new (Torn at (length bytes.now) old))) }
         ensures crash { Follows (Torn at (length bytes.now)) (Leaves self.old.first.items (history self.old)) (Leaves self.new.first.items (history self.new)) }
-        ensures time { Elapses (length (history self.old)) (length (history self.new)) (LeftSince self.old.first.items (history self.old)) (LeftSince self.new.first.items (history self.new)) (Leaves self.new.first.items (history self.new)) }
+        ensures time { Elapses (length (history self.old)) (length (history self.new))
+            (LeftSince self.old.first.items (history self.old)) (LeftSince self.new.first.items (history self.new))
+            (Leaves self.new.first.items (history self.new)) }
         ensures cause { CountsFaults self.old.faults self.new.faults result }
         // Exactly the listed calls fail, and those without room.
         ensures works { OnOk result ((fate_next self.old ≡ Works) × HasRoomFor self.old at (length bytes.now)) }
@@ -339,7 +345,9 @@ impl Disk for MemDisk {
         ensures cut { OnOk result (Told (Some self.old.file.items) (λ old. Some self.new.file.items ≡ Some (take len old))) }
         ensures failed { OnErr result (Told (Some self.old.file.items) (λ old. SeenIn (λ m. Some m.file.items) self.new (Cut len old))) }
         ensures crash { Follows (Cut len) (Leaves self.old.first.items (history self.old)) (Leaves self.new.first.items (history self.new)) }
-        ensures time { Elapses (length (history self.old)) (length (history self.new)) (LeftSince self.old.first.items (history self.old)) (LeftSince self.new.first.items (history self.new)) (Leaves self.new.first.items (history self.new)) }
+        ensures time { Elapses (length (history self.old)) (length (history self.new))
+            (LeftSince self.old.first.items (history self.old)) (LeftSince self.new.first.items (history self.new))
+            (Leaves self.new.first.items (history self.new)) }
         ensures cause { CountsFaults self.old.faults self.new.faults result }
         // Exactly the listed calls fail, and those without room.
         ensures works { OnOk result ((fate_next self.old ≡ Works) × HasOneMore self.old) }
@@ -364,7 +372,9 @@ impl Disk for MemDisk {
         ensures seen { OnOk result (Stay (Some self.old.file.items) (Some self.new.file.items)) }
         ensures failed { OnErr result (Told (Some self.old.file.items) (λ bytes. SeenIn (λ m. Some m.file.items) self.new (Leaves self.old.first.items (history self.old)))) }
         ensures crash { (c : List ℕ) → Leaves self.new.first.items (history self.new) c → Leaves self.old.first.items (history self.old) c }
-        ensures time { Elapses (length (history self.old)) (length (history self.new)) (LeftSince self.old.first.items (history self.old)) (LeftSince self.new.first.items (history self.new)) (Leaves self.new.first.items (history self.new)) }
+        ensures time { Elapses (length (history self.old)) (length (history self.new))
+            (LeftSince self.old.first.items (history self.old)) (LeftSince self.new.first.items (history self.new))
+            (Leaves self.new.first.items (history self.new)) }
         ensures cause { CountsFaults self.old.faults self.new.faults result }
         // Exactly the listed calls fail, and those without room.
         ensures works { OnOk result ((fate_next self.old ≡ Works) × HasOneMore self.old) }

@@ -150,8 +150,13 @@ impl<D: Disk> SlotFile<D> {
         ensures later { D.fault_count self.old.disk ≤ D.fault_count self.new.disk }
         ensures good { OnOk result (D.fault_count self.new.disk ≡ D.fault_count self.old.disk) }
         // Only the slot that is not current is written, and in the end it holds the new record.
-        ensures exact { OnOk result ((rest : IsAtRest D.seen D.may_leave self.old) → D.seen self.new.disk ≡ Some (written rest.bytes (start (next_slot (remembered self.old))) (open_slot (last_serial (remembered self.old) + 1) bytes.now))) }
-        ensures inside { (rest : IsAtRest D.seen D.may_leave self.old) → LeavesOnly D.moment D.left_since self.old.disk self.new.disk (Torn (start (next_slot (remembered self.old))) (11 + length bytes.now) rest.bytes) }
+        ensures exact { OnOk result ((rest : IsAtRest D.seen D.may_leave self.old)
+            → D.seen self.new.disk ≡ Some
+            (written rest.bytes (start (next_slot (remembered self.old)))
+            (open_slot (last_serial (remembered self.old) + 1) bytes.now))) }
+        ensures inside { (rest : IsAtRest D.seen D.may_leave self.old)
+            → LeavesOnly D.moment D.left_since self.old.disk self.new.disk
+            (Torn (start (next_slot (remembered self.old))) (11 + length bytes.now) rest.bytes) }
         ensures inside_seen { (rest : IsAtRest D.seen D.may_leave self.old) → SeenIn D.seen self.new.disk (Torn (start (next_slot (remembered self.old))) (11 + length bytes.now) rest.bytes) }
         // After a failure the gate of that slot is not taken for closed.
         ensures doubted { IsErrOf result errors.Failed → remembers_shut self.new (next_slot (remembered self.old)) ≡ false }

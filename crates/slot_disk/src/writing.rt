@@ -22,7 +22,8 @@ fn write_synced<D: Disk>(disk: &mut D, at: u64, bytes: &[u8]) -> Result<(), Fail
 /// Closes the gate of the slot that the next save takes, unless it is present and closed. Nothing
 /// else changes.
 fn close<D: Disk>(disk: &mut D, slot: Slot, is_shut: bool) -> Result<(), Failed>
-    ensures done { OnOk result ((file : List ℕ) → IsOn D.seen D.may_leave disk.old file → IsFree file slot is_shut → (after : List ℕ) × IsOn D.seen D.may_leave disk.new after × IsClosed file slot after) }
+    ensures done { OnOk result ((file : List ℕ) → IsOn D.seen D.may_leave disk.old file → IsFree file slot is_shut
+        → (after : List ℕ) × IsOn D.seen D.may_leave disk.new after × IsClosed file slot after) }
     ensures seen { (file : List ℕ) → IsOn D.seen D.may_leave disk.old file → IsFree file slot is_shut → SeenIn D.seen disk.new (λ c. current c ≡ current file) }
     ensures any_moment { (file : List ℕ) → IsOn D.seen D.may_leave disk.old file → IsFree file slot is_shut → LeavesOnly D.moment D.left_since disk.old disk.new (λ c. current c ≡ current file) }
     ensures exact { OnOk result ((file : List ℕ) → IsOn D.seen D.may_leave disk.old file → IsOn D.seen D.may_leave disk.new (with_gate_closed file slot is_shut)) }
@@ -44,9 +45,14 @@ pub(crate) fn replace<D: Disk>(
     is_shut: bool,
     spelled: &[u8],
 ) -> Result<(), Failed>
-    ensures done { OnOk result ((file bytes : List ℕ) → IsOn D.seen D.may_leave disk.old file → IsFree file slot is_shut → IsBody file bytes spelled.now → (after : List ℕ) × IsOn D.seen D.may_leave disk.new after × IsSaved file slot bytes after) }
-    ensures seen { (file bytes : List ℕ) → IsOn D.seen D.may_leave disk.old file → IsFree file slot is_shut → IsBody file bytes spelled.now → SeenIn D.seen disk.new (IsOldOrNew (record_of file) bytes) }
-    ensures any_moment { (file bytes : List ℕ) → IsOn D.seen D.may_leave disk.old file → IsFree file slot is_shut → IsBody file bytes spelled.now → LeavesOnly D.moment D.left_since disk.old disk.new (IsOldOrNew (record_of file) bytes) }
+    ensures done { OnOk result ((file bytes : List ℕ) → IsOn D.seen D.may_leave disk.old file
+        → IsFree file slot is_shut → IsBody file bytes spelled.now → (after : List ℕ)
+        × IsOn D.seen D.may_leave disk.new after × IsSaved file slot bytes after) }
+    ensures seen { (file bytes : List ℕ) → IsOn D.seen D.may_leave disk.old file → IsFree file slot is_shut
+        → IsBody file bytes spelled.now → SeenIn D.seen disk.new (IsOldOrNew (record_of file) bytes) }
+    ensures any_moment { (file bytes : List ℕ) → IsOn D.seen D.may_leave disk.old file → IsFree file slot is_shut
+        → IsBody file bytes spelled.now
+        → LeavesOnly D.moment D.left_since disk.old disk.new (IsOldOrNew (record_of file) bytes) }
     ensures exact { OnOk result ((file : List ℕ) → IsOn D.seen D.may_leave disk.old file → IsFree file slot is_shut → IsOn D.seen D.may_leave disk.new (written file (start slot) (1 ∷ spelled.now))) }
     ensures inside_seen { (file : List ℕ) → IsOn D.seen D.may_leave disk.old file → SeenIn D.seen disk.new (Torn (start slot) (1 + length spelled.now) file) }
     ensures inside { (file : List ℕ) → IsOn D.seen D.may_leave disk.old file → LeavesOnly D.moment D.left_since disk.old disk.new (Torn (start slot) (1 + length spelled.now) file) }

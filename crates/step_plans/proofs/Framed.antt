@@ -1,7 +1,7 @@
 -- Plans whose output comes after what was in the outbox before.
 use Rattle.std.proofs.Common.{◌≡◌, List, [], ◌∷◌, ◌++◌, refl, ap, inl, inr, arith}
 use Rattle.std.proofs.lemmas.List.{append-nil}
-use Rattle.leader_words.specs.RegisterModel.{Note}
+use Rattle.leader_output.specs.RegisterModel.{Note}
 use Rattle.step_plans.specs.Calls.{Call, AnswerOf}
 use Rattle.step_plans.specs.Plans.{Plan, Done, Say, Ask, Out, nothing, Finished, Stopped, Runs}
 use Rattle.step_plans.specs.declared.error.PeerError.{PeerError}

@@ -3,10 +3,10 @@ use Rattle.std.proofs.Common.{◌≡◌, ◌≤◌, ◌∙◌, Bool, List, lengt
 use Rattle.std.proofs.lemmas.List.{take-take, take_all, length-take}
 use Rattle.step_plans.specs.Outboxes.{Grows, IsMark, out_of}
 use Rattle.step_plans.specs.Plans.{Out}
-use Rattle.leader_words.specs.declared.out.AnswerOut.{AnswerOut}
+use Rattle.leader_output.specs.declared.out.AnswerOut.{AnswerOut}
 use Rattle.step_plans.specs.declared.outbox.Mark.{Mark}
 use Rattle.step_plans.specs.declared.outbox.Outbox.{Outbox}
-use Rattle.leader_words.specs.declared.out.Outgoing.{Outgoing}
+use Rattle.leader_output.specs.declared.out.Outgoing.{Outgoing}
 
 pub begins_same : {A : Type 0} (xs ys : List A) → ys ≡ xs → take (length xs) ys ≡ xs
 begins_same xs ys is = rw is (take_all (length xs) xs (omega arith))

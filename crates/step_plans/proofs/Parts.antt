@@ -1,7 +1,7 @@
 -- Parts of a step, one after another.
 use Rattle.std.proofs.Common.{List, [], ◌∷◌, ◌++◌, Result, Ok, Err, refl, inl, inr}
 use Rattle.std.proofs.lemmas.List.{append_assoc, append-nil}
-use Rattle.leader_words.specs.RegisterModel.{Note}
+use Rattle.leader_output.specs.RegisterModel.{Note}
 use Rattle.step_plans.specs.Calls.{Call, AnswerOf, Answers}
 use Rattle.step_plans.specs.Plans.{Plan, Done, Say, Ask, Out, Rest, Part, Spot, Ending, Stopped, Runs, Did, asked, noted}
 use Rattle.step_plans.specs.declared.error.PeerError.{PeerError}

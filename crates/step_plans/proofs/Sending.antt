@@ -3,7 +3,7 @@ use Rattle.std.proofs.Common.{◌≡◌, ℕ, ◌+◌, Bool, true, false, if◌t
 use Rattle.std.proofs.lemmas.List.{append_assoc}
 use Rattle.phase_rows.specs.WireFrames.{Message}
 use Rattle.step_plans.specs.Sends.{posted}
-use Rattle.leader_words.specs.declared.out.Outgoing.{Outgoing}
+use Rattle.leader_output.specs.declared.out.Outgoing.{Outgoing}
 
 posted_step : (test : ℕ → Bool) (word : ℕ → Message) (n : ℕ)
     → posted test word (n + 1) ≡ posted test word n ++ (if test (n + 1) then record { to = n + 1; message = word (n + 1) } ∷ [] else [])

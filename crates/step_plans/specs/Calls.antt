@@ -2,7 +2,7 @@
 -- answers.
 use Rattle.std.specs.Prelude.{ℕ, List, Option, Result, Ok, Err}
 use Rattle.ens_base.specs.declared.entry.Entry.{Entry}
-use Rattle.phase_rows.specs.PeerFact.{SavedFact}
+use Rattle.phase_rows.specs.StoredFormats.{SavedFact}
 use Rattle.phase_rows.specs.TreeNode.{Scan, Position, TreeVersion}
 use Rattle.step_plans.specs.declared.error.PeerError.{PeerError}
 use Rattle.step_plans.specs.declared.walked.Walked.{Walked}

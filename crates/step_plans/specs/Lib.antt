@@ -5,4 +5,4 @@ pub mod Outboxes
 pub mod Sends
 pub mod Tasks
 pub mod Steps
-pub mod LeaderWords
+pub mod LeaderOutput

@@ -1,12 +1,12 @@
 -- A step as a plan: the calls it makes to the stores, what it notes, and how it goes on after each
 -- answer. `X` is the state of the peer.
 use Rattle.std.specs.Prelude.{◌≡◌, ◌⊎◌, Bool, List, [], ◌∷◌, ◌++◌, Result, Ok, Err}
-use Rattle.leader_words.specs.RegisterModel.{Note}
+use Rattle.leader_output.specs.RegisterModel.{Note}
 use Rattle.step_plans.specs.Calls.{Call, AnswerOf}
 use Rattle.step_plans.specs.declared.error.PeerError.{PeerError}
 use Rattle.step_plans.specs.declared.error.PeerError.TheVariants.{Memory}
-use Rattle.leader_words.specs.declared.out.AnswerOut.{AnswerOut}
-use Rattle.leader_words.specs.declared.out.Outgoing.{Outgoing}
+use Rattle.leader_output.specs.declared.out.AnswerOut.{AnswerOut}
+use Rattle.leader_output.specs.declared.out.Outgoing.{Outgoing}
 
 -- the output of a step that ended well: messages, answers to calls, and replies to requests to
 -- change the view

@@ -1,6 +1,6 @@
 -- Facts as a peer saves them, each with the seal of its tree, if it has one.
 use Rattle.std.specs.Prelude.{ℕ, List, Option, None, Some}
-use Rattle.phase_rows.specs.PeerFact.{Fact, SavedFact}
+use Rattle.phase_rows.specs.StoredFormats.{Fact, SavedFact}
 
 -- the fact, as it is saved with this seal
 abbrev pub with_seal : Option (List ℕ) → Fact → SavedFact

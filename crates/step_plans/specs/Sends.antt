@@ -2,7 +2,7 @@
 use Rattle.std.specs.Prelude.{ℕ, zero, suc, ◌+◌, Bool, if◌then◌else◌, List, [], ◌∷◌, ◌++◌, Option, Some, None}
 use Rattle.ens_base.specs.PeerSet.{holds}
 use Rattle.phase_rows.specs.WireFrames.{Message}
-use Rattle.leader_words.specs.declared.out.Outgoing.{Outgoing}
+use Rattle.leader_output.specs.declared.out.Outgoing.{Outgoing}
 
 -- to each peer from 1 up to this number that passes the test, in ascending order, its message
 unfoldable pub posted : (ℕ → Bool) → (ℕ → Message) → ℕ → List Outgoing

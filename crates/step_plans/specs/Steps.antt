@@ -1,6 +1,6 @@
 -- What a call did that took a step: how its plan ended, and what it added to the outbox.
 use Rattle.std.specs.Prelude.{◌≡◌, ◌++◌, List, Result, Ok, Err}
-use Rattle.leader_words.specs.RegisterModel.{Note}
+use Rattle.leader_output.specs.RegisterModel.{Note}
 use Rattle.step_plans.specs.Calls.{Call, AnswerOf}
 use Rattle.step_plans.specs.Outboxes.{out_of}
 use Rattle.step_plans.specs.Plans.{Plan, Out, Finished, Stopped, Runs}

@@ -2,7 +2,7 @@ ghost use Rattle.std.specs.Prelude.{◌≡◌};
 ghost use Rattle.step_plans.specs.declared.error.PeerError.TheVariants.{Memory};
 
 use ens_base::{Bytes, CopyError};
-use leader_words::LeadError;
+use leader_output::LeadError;
 use phase_rows::FactError;
 use std::alloc::{AllocError, AllocFailed};
 

@@ -15,7 +15,7 @@ mod tasks;
 mod walked;
 
 pub use error::PeerError;
-pub use leader_words::{AnswerOut, Outgoing};
+pub use leader_output::{AnswerOut, Outgoing};
 pub use outbox::{Mark, Outbox};
 pub use store::Store;
 pub use tasks::{Task, Tasks};

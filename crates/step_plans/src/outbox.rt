@@ -8,7 +8,7 @@ ghost use Rattle.step_plans.specs.declared.outbox.Outbox.{Outbox};
 
 use crate::error::PeerError;
 use ens_base::{PeerId, PeerSet, Reply};
-use leader_words::{AnswerOut, Note, Outgoing};
+use leader_output::{AnswerOut, Note, Outgoing};
 use phase_rows::{Message, alone};
 use std::alloc::Global;
 
@@ -201,13 +201,21 @@ impl Outbox {
     ///
     /// `Memory` when out of memory, and no other error.
     pub fn answer(&mut self, from: u32, id: u64, reply: Reply) -> Result<(), PeerError>
-        ensures answers { OnOk result (self.new.answers.items ≡ self.old.answers.items ++ record { from = from; id = id; reply = reply } ∷ []) }
+        ensures answers { OnOk result (self.new.answers.items ≡ self.old.answers.items ++ record { caller = from; id = id; reply = reply } ∷ []) }
         ensures kept { OnErr result (self.new.answers.items ≡ self.old.answers.items) }
         ensures rest { (self.new.sends ≡ self.old.sends) × (self.new.notes ≡ self.old.notes) × (self.new.changes ≡ self.old.changes) }
         ensures grows { Grows self.old self.new }
         ensures memory { IfErr result (λ e. e ≡ PeerError.Memory) }
     {
-        if self.answers.push(AnswerOut { from, id, reply }).is_err() {
+        if self
+            .answers
+            .push(AnswerOut {
+                caller: from,
+                id,
+                reply,
+            })
+            .is_err()
+        {
             return Err(PeerError::Memory);
         }
         Ok(())

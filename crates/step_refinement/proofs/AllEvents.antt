@@ -1,13 +1,13 @@
 -- The step of a peer ends well on each event: its tasks of phases, the messages that come to it, its ticks,
 -- requests for a view, and calls.
 use Rattle.std.proofs.Common.{◌≡◌, inl, ℕ, Bool, true, false, List, [], refl}
-use Rattle.tree_refinement.specs.HeldStores.{Held}
-use Rattle.peer_plan.proofs.Inside.{placed}
-use Rattle.peer_plan.specs.Drives.{got_ask, in_tree, delivered}
-use Rattle.peer_plan.specs.Syncs.{tree_give}
-use Rattle.peer_plan.specs.TreeCalls.{has_position}
+use Rattle.peer_refinement.specs.WorldSpec.{Held}
+use Rattle.peer_spec.proofs.Inside.{placed}
+use Rattle.peer_spec.specs.Drives.{got_ask, in_tree, delivered}
+use Rattle.peer_spec.specs.Syncs.{tree_give}
+use Rattle.peer_spec.specs.TreeCalls.{has_position}
 use Rattle.peer_state.specs.declared.state.State.{State as PeerState}
-use Rattle.running_sync.specs.declared.asking.Give.{Give}
+use Rattle.tree_sync.specs.declared.asking.Give.{Give}
 use Rattle.step_plans.specs.Plans.{Out, nothing, Part, Rest}
 use Rattle.step_plans.specs.declared.tasks.Task.{Task}
 use Rattle.wire_frames.specs.declared.message.Message.{Message}

@@ -1,23 +1,23 @@
 -- The plan of a step, call by call: it ends in agreement if each of its calls goes on in agreement or is
 -- refused.
 use Rattle.std.proofs.Common.{◌≡◌, ◌⊎◌, inl, inr, ℕ, List, [], ◌∷◌, ◌++◌, Result, Ok, Err, refl, sym, subst, ◌∙◌}
-use Rattle.abstract_protocol.specs.Protocol.{State}
+use Rattle.protocol_laws.specs.Protocol.{State}
 use Rattle.call_table.specs.Calls.{running}
 use Rattle.call_table.specs.Rows.{row_at}
-use Rattle.tree_refinement.specs.HeldStores.{answered, Held, Ended, run, either}
+use Rattle.peer_refinement.specs.WorldSpec.{answered, Held, Ended, run, either}
 use Rattle.leader_refinement.specs.Follows.{TaskHolds}
-use Rattle.leading.specs.declared.pending.Pending.{Pending}
+use Rattle.leader.specs.declared.pending.Pending.{Pending}
 use Rattle.peer_state.specs.declared.state.Phase.{Phase}
 use Rattle.peer_state.specs.declared.state.Phase.TheVariants as phases
 use Rattle.peer_state.specs.declared.state.State.{State as PeerState}
-use Rattle.peer_plan.specs.Turns.{StepsAlone}
+use Rattle.peer_spec.specs.Turns.{StepsAlone}
 use Rattle.register_model.specs.declared.note.Note.{Note}
 use Rattle.step_plans.specs.Calls.{Call, AnswerOf}
 use Rattle.step_plans.specs.Plans.{Plan, Done, Say, Ask, Stopped, Out, Rest}
 use Rattle.step_plans.specs.declared.error.PeerError.{PeerError}
 use Rattle.step_refinement.specs.Peers.{TaskFits, IsAtRest}
-use Rattle.tree_refinement.specs.Trees.{AreAmong}
-use Rattle.tree_refinement.specs.Laws.{KeepsHashed}
+use Rattle.peer_refinement.specs.Trees.{AreAmong}
+use Rattle.peer_refinement.specs.TreeLaws.{KeepsHashed}
 use Rattle.step_refinement.specs.Scenes.{Scene, EndsBy, Rests}
 
 -- a peer without a task fits on each key
@@ -30,7 +30,7 @@ module _ (c : Scene) where
 
   -- The plan ends in agreement, if all that its run hashes is among the strings. `mark` is the same plan
   -- but for what follows when the limit on tasks is reached, so that this never happens: see
-  -- `nothing_is_left` of peer_plan.
+  -- `nothing_is_left` of peer_spec.
   abbrev pub Ends : Plan PeerState → Plan PeerState → Held → List Note → Type 0
   Ends plan mark h notes = StepsAlone mark → AreAmong (run plan h notes).held.hashed strings → EndsBy c (run plan h notes).ending (run plan h notes).held (run plan h notes).notes
 

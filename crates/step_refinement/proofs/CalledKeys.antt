@@ -3,13 +3,13 @@ use Rattle.std.proofs.Common.{◌≡◌, ℕ, ◌<◌, true, ◌⊎◌, List, []
 use Rattle.ens_base.specs.Lists.{◌∈◌}
 use Rattle.ens_base.specs.declared.entry.Entry.{Entry}
 use Rattle.register_model.specs.declared.call.Call.{Call}
-use Rattle.election_laws.proofs.Epochs.{strong}
-use Rattle.version_laws.proofs.Basics.{Basics}
-use Rattle.version_laws.proofs.Descent.{run_whole}
-use Rattle.entry_laws.specs.Entries.{EntriesAreSafe, WriteKeeps, RewriteKeeps}
-use Rattle.entry_laws.proofs.Replies.{run_entries}
-use Rattle.safety_laws.proofs.Noted.{Listed, run_listed}
-use Rattle.abstract_protocol.specs.Protocol.{State, Step, Begin, Ask, Raise, Elect, Accept, Commit, Adopt, Write, Acknowledge, Install, EndSync, Propose, Settle, Note, Answer, Lose, Revert, happens, IsRun, state_after}
+use Rattle.protocol_laws.proofs.Epochs.{strong}
+use Rattle.protocol_laws.proofs.Basics.{Basics}
+use Rattle.protocol_laws.proofs.Descent.{run_whole}
+use Rattle.protocol_laws.specs.Entries.{EntriesAreSafe, WriteKeeps, RewriteKeeps}
+use Rattle.protocol_laws.proofs.Replies.{run_entries}
+use Rattle.protocol_laws.proofs.Noted.{Listed, run_listed}
+use Rattle.protocol_laws.specs.Protocol.{State, Step, Begin, Ask, Raise, Elect, Accept, Commit, Adopt, Write, Acknowledge, Install, EndSync, Propose, Settle, Note, Answer, Lose, Revert, happens, IsRun, state_after}
 use Rattle.step_refinement.proofs.DistinctItems.{images_few, Comes}
 use Rattle.step_refinement.specs.Keys.{IsCalled, IsProposed, KeysAreCalled, KeysAreFew, IdsAreFew, CallsAreFew}
 

@@ -2,24 +2,24 @@
 -- what trees, messages and acknowledgements say stays so.
 use Rattle.std.proofs.Common.{◌≡◌, ℕ, suc, Bool, List, [], ◌∷◌, ◌++◌, Option, arith, refl, ap, sym, subst, ◌∙◌}
 use Rattle.std.specs.Prelude.{All}
-use Rattle.abstract_protocol.proofs.Steps.{after_both, may_both}
-use Rattle.abstract_protocol.specs.Protocol.{State, Step, Raise, Elect, Accept, Commit, Adopt, Install, EndSync, happens, MayCome, IsRun, state_after, after, MayAll}
-use Rattle.entry_laws.proofs.Later.{stay_after}
-use Rattle.entry_laws.specs.Stays.{EntriesStay}
+use Rattle.protocol_laws.proofs.Steps.{after_both, may_both}
+use Rattle.protocol_laws.specs.Protocol.{State, Step, Raise, Elect, Accept, Commit, Adopt, Install, EndSync, happens, MayCome, IsRun, state_after, after, MayAll}
+use Rattle.protocol_laws.proofs.Later.{stay_after}
+use Rattle.protocol_laws.specs.Stays.{EntriesStay}
 use Rattle.election_refinement.specs.Keeps.{Keeps}
 use Rattle.election_refinement.proofs.Reaching.{IsRowStep, AreRowSteps}
 use Rattle.election_refinement.specs.Refinement.{IsOrderly}
-use Rattle.tree_refinement.specs.HeldStores.{Held}
-use Rattle.leader_laws.proofs.Roles.{run_roles}
-use Rattle.leader_laws.proofs.Runs.{run_leaders}
-use Rattle.leader_laws.specs.Leaders.{IsUnled}
-use Rattle.leader_laws.specs.Moves.{IsOfLeader}
-use Rattle.leader_laws.specs.Roles.{Role, Sent, RolesHold, IsSilent}
-use Rattle.leader_laws.specs.Tables.{Ghosts}
+use Rattle.peer_refinement.specs.WorldSpec.{Held}
+use Rattle.role_laws.proofs.Roles.{run_roles}
+use Rattle.role_laws.proofs.Runs.{run_leaders}
+use Rattle.role_laws.specs.Leaders.{IsUnled}
+use Rattle.role_laws.specs.Moves.{IsOfLeader}
+use Rattle.role_laws.specs.Roles.{Role, Sent, RolesHold, IsSilent}
+use Rattle.role_laws.specs.Tables.{Ghosts}
 use Rattle.leader_refinement.specs.Seen.{rank}
-use Rattle.leader_words.specs.declared.out.Outgoing.{Outgoing}
-use Rattle.sync_laws.specs.Facts.{Lines}
-use Rattle.sync_refinement.proofs.Staying.{version_stays}
+use Rattle.leader_output.specs.declared.out.Outgoing.{Outgoing}
+use Rattle.role_laws.specs.Facts.{Lines}
+use Rattle.peer_refinement.proofs.SyncStaying.{version_stays}
 use Rattle.tree_node.specs.declared.version.TreeVersion.{TreeVersion}
 use Rattle.step_refinement.specs.Scenes.{Scene, Elsewhere, Reached, now, state_before}
 use Rattle.step_refinement.proofs.Stretches.{elsewhere_then}

@@ -4,37 +4,37 @@ use Rattle.std.specs.Prelude.{map, IsSome}
 use Rattle.std.proofs.Common.{◌≡◌, inl, inr, ℕ, ◌+◌, Bool, if◌then◌else◌, List, [], ◌∷◌, Option, Some, None, refl, sym, ap, subst, ◌∙◌}
 use Rattle.std.proofs.lemmas.Bool.{false≢true}
 use Rattle.ens_base.specs.declared.epoch.Version.{Version}
-use Rattle.ens_object.specs.declared.object.Object.{Object}
-use Rattle.abstract_protocol.specs.Protocol.{State}
+use Rattle.stored_formats.specs.declared.object.Object.{Object}
+use Rattle.protocol_laws.specs.Protocol.{State}
 use Rattle.call_table.specs.Calls.{running}
 use Rattle.call_table.specs.Rows.{row_at}
 use Rattle.call_table.specs.declared.row.Stage.TheVariants as stages
 use Rattle.call_table.specs.declared.table.CallTable.{CallTable}
 use Rattle.call_table.specs.declared.waiting.Waiting.{Waiting}
 use Rattle.election_refinement.proofs.Tests.{by_test}
-use Rattle.tree_refinement.specs.HeldStores.{Held}
-use Rattle.leader_laws.specs.Tables.{Ghosts, Owed}
+use Rattle.peer_refinement.specs.WorldSpec.{Held}
+use Rattle.role_laws.specs.Tables.{Ghosts, Owed}
 use Rattle.leader_refinement.proofs.Asking.{run_asks}
 use Rattle.leader_refinement.proofs.Writes.{run_writes, run_rewrites}
 use Rattle.leader_refinement.specs.Follows.{GoesOn}
 use Rattle.leader_refinement.specs.Laws.{LookSays, LookNames, looked_next, noted_next}
 use Rattle.leader_refinement.specs.Seen.{owed_after}
-use Rattle.leader_words.specs.Outs.{leaves, rests, and_own}
-use Rattle.leader_words.specs.declared.out.LeadOut.{LeadOut}
-use Rattle.leader_words.specs.declared.out.Own.TheVariants as owns
-use Rattle.leading.specs.Leaders.{is_spent, next_version, with_task}
-use Rattle.leading.specs.Puts.{row_31, row_32, row_35, written_for, rewritten, proposed}
-use Rattle.leading.specs.Rounds.{row_29, asked_for}
-use Rattle.leading.specs.Rules.{lead_row}
-use Rattle.leading_laws.specs.Steps.{Runs}
-use Rattle.leading.specs.Ticks.{left_answer}
-use Rattle.leading.specs.declared.leader.Leader.{Leader}
-use Rattle.leading.specs.declared.pending.Pending.{Pending}
-use Rattle.leading.specs.declared.pending.Pending.TheVariants as pendings
-use Rattle.peer_plan.specs.Drives.{lead_done, lead}
+use Rattle.leader_output.specs.Outs.{leaves, rests, and_own}
+use Rattle.leader_output.specs.declared.out.LeadOut.{LeadOut}
+use Rattle.leader_output.specs.declared.out.Own.TheVariants as owns
+use Rattle.leader.specs.Leaders.{is_spent, next_version, with_task}
+use Rattle.leader.specs.Puts.{row_31, row_32, row_35, written_for, rewritten, proposed}
+use Rattle.leader.specs.Rounds.{row_29, asked_for}
+use Rattle.leader.specs.Rules.{lead_row}
+use Rattle.leader_laws.specs.Steps.{Runs}
+use Rattle.leader.specs.Ticks.{left_answer}
+use Rattle.leader.specs.declared.leader.Leader.{Leader}
+use Rattle.leader.specs.declared.pending.Pending.{Pending}
+use Rattle.leader.specs.declared.pending.Pending.TheVariants as pendings
+use Rattle.peer_spec.specs.Drives.{lead_done, lead}
 use Rattle.peer_state.specs.Moves.{and_answers, leading, with_leader}
-use Rattle.peer_plan.specs.Owns.{looked}
-use Rattle.peer_plan.specs.Syncs.{and_sends}
+use Rattle.peer_spec.specs.Owns.{looked}
+use Rattle.peer_spec.specs.Syncs.{and_sends}
 use Rattle.peer_state.specs.declared.state.Leadership.{Leadership}
 use Rattle.peer_state.specs.declared.state.Phase.{Phase}
 use Rattle.peer_state.specs.declared.state.State.{State as PeerState}

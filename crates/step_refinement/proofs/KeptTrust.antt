@@ -3,31 +3,31 @@
 use Rattle.std.proofs.Common.{◌≡◌, ◌⊎◌, inl, inr, ℕ, Bool, true, false, if◌then◌else◌, List, Option, None, Some, refl, sym, ap, subst, ◌∙◌}
 use Rattle.ens_base.specs.declared.entry.Entry.{Entry}
 use Rattle.ens_base.specs.declared.epoch.Epoch.{Epoch}
-use Rattle.abstract_protocol.specs.Ledger.{Ledger}
-use Rattle.abstract_protocol.specs.Numbers.{epoch_number}
-use Rattle.abstract_protocol.specs.Protocol.{State as Protocol}
-use Rattle.election.specs.Preparing.{row_10}
-use Rattle.election.specs.declared.election.Election.{Election}
-use Rattle.election.specs.declared.election.Election.TheVariants.{Preparing, Starting}
+use Rattle.protocol_laws.specs.Ledger.{Ledger}
+use Rattle.protocol_laws.specs.Numbers.{epoch_number}
+use Rattle.protocol_laws.specs.Protocol.{State as Protocol}
+use Rattle.phase_rules.specs.Preparing.{row_10}
+use Rattle.phase_rules.specs.declared.election.Election.{Election}
+use Rattle.phase_rules.specs.declared.election.Election.TheVariants.{Preparing, Starting}
 use Rattle.election_refinement.proofs.Rows.{made_way, saved_in, settled}
 use Rattle.election_refinement.proofs.Tests.{by_test}
 use Rattle.election_refinement.specs.Refinement.{SyncHolds}
-use Rattle.following.specs.Announcements.{row_16}
+use Rattle.phase_rules.specs.Announcements.{row_16}
 use Rattle.peer_state.specs.Moves.{left, sought, stood, turned, waiting_for}
 use Rattle.peer_state.specs.Rows.{aged, asked_change, changes, leads, phase_row, received, runs_sync, wanting, while_8, while_9, while_10, while_12, while_13, while_14, while_15, while_17, while_25, while_26}
 use Rattle.peer_state.specs.declared.state.Phase.{Phase}
 use Rattle.peer_state.specs.declared.state.Phase.TheVariants as phases
 use Rattle.peer_state.specs.declared.state.State.{State}
-use Rattle.peer_fact.specs.declared.fact.Change.{Change}
-use Rattle.peer_fact.specs.declared.fact.Change.TheVariants as facts
-use Rattle.peer_fact.specs.declared.fact.Fact.{Fact}
-use Rattle.probe.specs.Probing.{row_7}
-use Rattle.probe.specs.declared.probing.Probing.{Probing}
-use Rattle.running_sync.specs.Running.{Running}
-use Rattle.sync_laws.specs.Facts.{Lines}
+use Rattle.stored_formats.specs.declared.fact.Change.{Change}
+use Rattle.stored_formats.specs.declared.fact.Change.TheVariants as facts
+use Rattle.stored_formats.specs.declared.fact.Fact.{Fact}
+use Rattle.phase_rules.specs.Probing.{row_7}
+use Rattle.phase_rules.specs.declared.probing.Probing.{Probing}
+use Rattle.tree_sync.specs.Running.{Running}
+use Rattle.role_laws.specs.Facts.{Lines}
 use Rattle.tree_node.specs.declared.version.TreeVersion.{TreeVersion}
 use Rattle.step_refinement.specs.Peers.{SyncFits}
-use Rattle.view_change.specs.Changes.{may_change}
+use Rattle.phase_rules.specs.Changes.{may_change}
 use Rattle.wire_frames.specs.declared.message.Message.{Message}
 use Rattle.wire_frames.specs.declared.message.Message.TheVariants as messages
 use Rattle.wire_frames.specs.declared.message.NackCause.{NackCause}

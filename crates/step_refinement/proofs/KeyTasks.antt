@@ -8,50 +8,50 @@ use Rattle.md5.specs.Md5.{md5}
 use Rattle.ens_base.specs.Limits.{IsKey, IsCommand}
 use Rattle.ens_base.specs.declared.entry.Entry.{Entry}
 use Rattle.ens_base.specs.declared.epoch.Version.{Version}
-use Rattle.ens_object.specs.Objects.{IsObject, object_spelling}
-use Rattle.ens_object.specs.declared.object.Object.{Object}
-use Rattle.abstract_protocol.specs.Numbers.{epoch_number, IsVersion}
-use Rattle.abstract_protocol.specs.Protocol.{State, Step, Write, IsRun, state_after, happens, MayCome}
+use Rattle.stored_formats.specs.Objects.{IsObject, object_spelling}
+use Rattle.stored_formats.specs.declared.object.Object.{Object}
+use Rattle.protocol_laws.specs.Numbers.{epoch_number, IsVersion}
+use Rattle.protocol_laws.specs.Protocol.{State, Step, Write, IsRun, state_after, happens, MayCome}
 use Rattle.call_table.specs.Calls.{running}
 use Rattle.call_table.specs.Rows.{row_at}
 use Rattle.call_table.specs.declared.row.Stage.TheVariants as stages
 use Rattle.call_table.specs.declared.waiting.Waiting.{Waiting}
-use Rattle.entry_laws.specs.Stays.{EntriesStay}
-use Rattle.tree_refinement.specs.HeldStores.{Held}
-use Rattle.kept_objects.specs.Kept.{object_in, matching}
-use Rattle.leader_laws.specs.Messages.{PutSays}
-use Rattle.leader_laws.specs.Tables.{Owed}
+use Rattle.protocol_laws.specs.Stays.{EntriesStay}
+use Rattle.peer_refinement.specs.WorldSpec.{Held}
+use Rattle.object_commands.specs.Kept.{object_in, matching}
+use Rattle.role_laws.specs.LeaderMessages.{PutSays}
+use Rattle.role_laws.specs.Tables.{Owed}
 use Rattle.leader_refinement.proofs.Puts.{run_goes_in, run_stored}
 use Rattle.leader_refinement.proofs.Starts.{run_starts}
 use Rattle.leader_refinement.specs.Follows.{Hash, Follows, NextFits, TaskHolds}
 use Rattle.leader_refinement.specs.Laws.{BackendSays, PutGoesIn}
 use Rattle.leader_refinement.specs.Seen.{rank, content_of, owed_after}
-use Rattle.leader_words.specs.Outs.{rests, and_own, and_note}
-use Rattle.leader_words.specs.declared.out.LeadOut.{LeadOut}
-use Rattle.leader_words.specs.declared.out.Own.TheVariants as owns
-use Rattle.leading_laws.proofs.Steps.{lead_step}
-use Rattle.leading.specs.Rules.{lead_row}
-use Rattle.leading.specs.declared.leader.Leader.{Leader}
-use Rattle.leading.specs.declared.pending.Pending.{Pending}
-use Rattle.leading.specs.declared.pending.Pending.TheVariants as pendings
-use Rattle.peer_plan.specs.Drives.{lead_done, lead}
+use Rattle.leader_output.specs.Outs.{rests, and_own, and_note}
+use Rattle.leader_output.specs.declared.out.LeadOut.{LeadOut}
+use Rattle.leader_output.specs.declared.out.Own.TheVariants as owns
+use Rattle.leader_laws.proofs.Steps.{lead_step}
+use Rattle.leader.specs.Rules.{lead_row}
+use Rattle.leader.specs.declared.leader.Leader.{Leader}
+use Rattle.leader.specs.declared.pending.Pending.{Pending}
+use Rattle.leader.specs.declared.pending.Pending.TheVariants as pendings
+use Rattle.peer_spec.specs.Drives.{lead_done, lead}
 use Rattle.peer_state.specs.Moves.{and_answers, leading, with_leader}
-use Rattle.peer_plan.specs.Owns.{digested, read, held, looked_at, looked, fetched, written}
-use Rattle.peer_plan.specs.Syncs.{and_sends}
+use Rattle.peer_spec.specs.Owns.{digested, read, held, looked_at, looked, fetched, written}
+use Rattle.peer_spec.specs.Syncs.{and_sends}
 use Rattle.peer_state.specs.declared.state.Leadership.{Leadership}
 use Rattle.peer_state.specs.declared.state.Phase.{Phase}
 use Rattle.peer_state.specs.declared.state.Phase.TheVariants as phases
 use Rattle.peer_state.specs.declared.state.State.{State as PeerState}
 use Rattle.register_model.specs.declared.call.Call.{Call}
 use Rattle.register_model.specs.declared.note.Note.{Note}
-use Rattle.sync_refinement.specs.RequestRefinement.{hash_of}
+use Rattle.peer_refinement.specs.Naming.{hash_of}
 use Rattle.step_plans.specs.Calls.{Find, Fetch}
 use Rattle.step_plans.specs.Plans.{Ask, Out, Rest, asked}
 use Rattle.step_plans.specs.declared.tasks.Task.{Task}
 use Rattle.step_plans.specs.declared.tasks.Task.TheVariants as tasks
 use Rattle.step_plans.specs.declared.walked.Walked.{Walked}
 use Rattle.step_plans.specs.declared.walked.Walked.TheVariants.{Reached as Came, Broken}
-use Rattle.sync_refinement.proofs.RequestRefinement.{put_object as said_object}
+use Rattle.peer_refinement.proofs.RequestStaying.{put_object as said_object}
 use Rattle.tree_node.specs.declared.position.Position.{Position}
 use Rattle.phase_rows.specs.declared.phase.Seen.{Seen}
 use Rattle.phase_rows.specs.declared.phase.Seen.TheVariants as seens

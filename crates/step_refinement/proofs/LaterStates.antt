@@ -4,21 +4,21 @@ use Rattle.std.proofs.Common.{◌≡◌, ℕ, Bool, true, List, Option, None, So
 use Rattle.std.specs.Prelude.{All}
 use Rattle.std.proofs.lemmas.List.Elements.{All-weaker}
 use Rattle.ens_base.specs.declared.entry.Entry.{Entry}
-use Rattle.abstract_protocol.specs.Numbers.{epoch_number}
-use Rattle.abstract_protocol.specs.Protocol.{State}
-use Rattle.entry_laws.specs.Stays.{EntriesStay}
+use Rattle.protocol_laws.specs.Numbers.{epoch_number}
+use Rattle.protocol_laws.specs.Protocol.{State}
+use Rattle.protocol_laws.specs.Stays.{EntriesStay}
 use Rattle.election_refinement.specs.Refinement.{PhaseHolds}
 use Rattle.leader_refinement.proofs.Steps.{fits_stay}
 use Rattle.leader_refinement.specs.Follows.{Hash}
 use Rattle.leader_refinement.specs.Seen.{rank}
-use Rattle.leader_words.specs.declared.out.Outgoing.{Outgoing}
+use Rattle.leader_output.specs.declared.out.Outgoing.{Outgoing}
 use Rattle.peer_state.specs.declared.state.Phase.{Phase}
 use Rattle.peer_state.specs.declared.state.Phase.TheVariants as phases
-use Rattle.peer_fact.specs.declared.fact.Fact.{Fact}
-use Rattle.sync_refinement.specs.RequestRefinement.{EntryMaySay}
-use Rattle.running_sync.specs.Running.{Running}
-use Rattle.sync_laws.specs.Facts.{Lines}
-use Rattle.sync_refinement.proofs.Staying.{stays, version_stays, entry_stays}
+use Rattle.stored_formats.specs.declared.fact.Fact.{Fact}
+use Rattle.peer_refinement.specs.Naming.{EntryMaySay}
+use Rattle.tree_sync.specs.Running.{Running}
+use Rattle.role_laws.specs.Facts.{Lines}
+use Rattle.peer_refinement.proofs.SyncStaying.{stays, version_stays, entry_stays}
 use Rattle.wire_frames.specs.declared.message.Message.{Message}
 use Rattle.wire_frames.specs.declared.message.Message.TheVariants as messages
 use Rattle.tree_node.specs.declared.version.TreeVersion.{TreeVersion}

@@ -6,22 +6,22 @@ use Rattle.ens_base.specs.declared.entry.Entry.{Entry}
 use Rattle.ens_base.specs.declared.epoch.Epoch.{Epoch}
 use Rattle.ens_base.specs.declared.epoch.Version.{Version}
 use Rattle.ens_base.specs.declared.reply.Reply.TheVariants.{Unavailable}
-use Rattle.ens_object.specs.declared.object.Object.{Object}
-use Rattle.abstract_protocol.specs.Book.{MayCall}
-use Rattle.abstract_protocol.specs.Ledger.{put}
-use Rattle.abstract_protocol.specs.Numbers.{epoch_number}
-use Rattle.abstract_protocol.specs.Protocol.{State, Step, Ask, IsRun, state_after, MayCome}
+use Rattle.stored_formats.specs.declared.object.Object.{Object}
+use Rattle.protocol_laws.specs.Book.{MayCall}
+use Rattle.protocol_laws.specs.Ledger.{put}
+use Rattle.protocol_laws.specs.Numbers.{epoch_number}
+use Rattle.protocol_laws.specs.Protocol.{State, Step, Ask, IsRun, state_after, MayCome}
 use Rattle.call_table.specs.Rows.{check_at}
-use Rattle.election.specs.declared.election.Election.{Election}
-use Rattle.election.specs.declared.election.Election.TheVariants.{Preparing, Starting}
+use Rattle.phase_rules.specs.declared.election.Election.{Election}
+use Rattle.phase_rules.specs.declared.election.Election.TheVariants.{Preparing, Starting}
 use Rattle.election_refinement.specs.Listed.{IsListedMessage}
 use Rattle.election_refinement.specs.Refinement.{SendHolds}
-use Rattle.entry_laws.proofs.Later.{stay_step}
-use Rattle.entry_laws.specs.Stays.{EntriesStay}
-use Rattle.tree_refinement.specs.HeldStores.{Held}
-use Rattle.leader_laws.proofs.Roles.{run_roles}
-use Rattle.leader_laws.specs.Roles.{Role, Entry as Entries, Acks, Stands as StandsThere, with_owed, owed_by, RolesHold}
-use Rattle.leader_laws.specs.Tables.{Ghosts, with_home}
+use Rattle.protocol_laws.proofs.Later.{stay_step}
+use Rattle.protocol_laws.specs.Stays.{EntriesStay}
+use Rattle.peer_refinement.specs.WorldSpec.{Held}
+use Rattle.role_laws.proofs.Roles.{run_roles}
+use Rattle.role_laws.specs.Roles.{Role, Entry as Entries, Acks, Stands as StandsThere, with_owed, owed_by, RolesHold}
+use Rattle.role_laws.specs.Tables.{Ghosts, with_home}
 use Rattle.leader_refinement.proofs.Asking.{run_got}
 use Rattle.leader_refinement.proofs.Checks.{run_counts}
 use Rattle.leader_refinement.proofs.Joins.{run_joins}
@@ -29,18 +29,18 @@ use Rattle.leader_refinement.proofs.Puts.{run_acknowledged}
 use Rattle.leader_refinement.specs.Follows.{Follows, TakesCall}
 use Rattle.leader_refinement.specs.Laws.{EntryFits}
 use Rattle.leader_refinement.specs.Seen.{rank, entry_rank, shown, owed_after}
-use Rattle.leader_words.specs.Outs.{rests}
-use Rattle.leader_words.specs.declared.out.LeadOut.{LeadOut}
-use Rattle.leader_words.specs.declared.out.Outgoing.{Outgoing}
-use Rattle.leading.specs.Puts.{row_35_reply}
-use Rattle.leading.specs.Rounds.{row_29_reply, stood_at, row_33_reply}
-use Rattle.leading.specs.Starts.{row_27}
-use Rattle.leading.specs.declared.leader.Leader.{Leader}
-use Rattle.leading.specs.declared.pending.Pending.TheVariants as pendings
-use Rattle.peer_plan.specs.Drives.{lead_done, lead, delivered, unavailable, called}
+use Rattle.leader_output.specs.Outs.{rests}
+use Rattle.leader_output.specs.declared.out.LeadOut.{LeadOut}
+use Rattle.leader_output.specs.declared.out.Outgoing.{Outgoing}
+use Rattle.leader.specs.Puts.{row_35_reply}
+use Rattle.leader.specs.Rounds.{row_29_reply, stood_at, row_33_reply}
+use Rattle.leader.specs.Starts.{row_27}
+use Rattle.leader.specs.declared.leader.Leader.{Leader}
+use Rattle.leader.specs.declared.pending.Pending.TheVariants as pendings
+use Rattle.peer_spec.specs.Drives.{lead_done, lead, delivered, unavailable, called}
 use Rattle.peer_state.specs.Moves.{and_answers, leading, with_leader}
 use Rattle.peer_state.specs.Rows.{has_begun}
-use Rattle.peer_plan.specs.Syncs.{and_sends}
+use Rattle.peer_spec.specs.Syncs.{and_sends}
 use Rattle.peer_state.specs.declared.event.CallIn.{CallIn}
 use Rattle.peer_state.specs.declared.state.Leadership.{Leadership}
 use Rattle.peer_state.specs.declared.state.Phase.{Phase}
@@ -48,11 +48,12 @@ use Rattle.peer_state.specs.declared.state.Phase.TheVariants as phases
 use Rattle.peer_state.specs.declared.state.State.{State as PeerState}
 use Rattle.register_model.specs.declared.call.Call.{Call}
 use Rattle.register_model.specs.declared.note.Note.{Note}
-use Rattle.sync_refinement.proofs.RequestRefinement.{maps_stay}
-use Rattle.sync_refinement.specs.RequestRefinement.{EntryMaySay, MapSays}
+use Rattle.peer_refinement.proofs.RequestStaying.{maps_stay}
+use Rattle.peer_refinement.specs.Naming.{EntryMaySay}
+use Rattle.peer_refinement.specs.Replies.{MapSays}
 use Rattle.step_plans.specs.Plans.{Out, nothing, Rest}
 use Rattle.step_plans.specs.declared.tasks.Task.{Task}
-use Rattle.version_laws.proofs.Maps.{put_here}
+use Rattle.protocol_laws.proofs.Maps.{put_here}
 use Rattle.wire_frames.specs.declared.message.Message.TheVariants as messages
 use Rattle.step_refinement.proofs.CallByCall.{Ends, Onward}
 use Rattle.step_refinement.specs.Scenes.{Scene, state_before, now, Here, AtRest}

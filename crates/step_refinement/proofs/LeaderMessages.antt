@@ -6,27 +6,28 @@ use Rattle.ens_base.specs.Lists.{◌∈◌}
 use Rattle.ens_base.specs.View.{IsPeer}
 use Rattle.ens_base.specs.declared.entry.Entry.{Entry}
 use Rattle.ens_base.specs.declared.epoch.Version.{Version}
-use Rattle.ens_object.specs.Objects.{IsObject}
-use Rattle.kept_objects.specs.Kept.{matching}
-use Rattle.abstract_protocol.specs.Book.{version_of}
-use Rattle.abstract_protocol.specs.Ledger.{Ledger}
-use Rattle.abstract_protocol.specs.Numbers.{epoch_number, IsVersion}
-use Rattle.abstract_protocol.specs.Protocol.{State, Step, after, MayAll}
+use Rattle.stored_formats.specs.Objects.{IsObject}
+use Rattle.object_commands.specs.Kept.{matching}
+use Rattle.protocol_laws.specs.Book.{version_of}
+use Rattle.protocol_laws.specs.Ledger.{Ledger}
+use Rattle.protocol_laws.specs.Numbers.{epoch_number, IsVersion}
+use Rattle.protocol_laws.specs.Protocol.{State, Step, after, MayAll}
 use Rattle.election_refinement.specs.Listed.{IsListedMessage}
 use Rattle.election_refinement.specs.Refinement.{MessageHolds}
-use Rattle.entry_laws.proofs.Later.{stay_after}
-use Rattle.leader_laws.specs.Roles.{Sent, SaidHolds, Reads, Checks, Puts}
-use Rattle.leader_laws.specs.Tables.{Ghosts}
+use Rattle.protocol_laws.proofs.Later.{stay_after}
+use Rattle.role_laws.specs.Roles.{Sent, SaidHolds, Reads, Checks, Puts}
+use Rattle.role_laws.specs.Tables.{Ghosts}
 use Rattle.leader_refinement.proofs.Numbers.{rank_back, rank_some}
 use Rattle.leader_refinement.specs.Follows.{SendSays, SentSays}
 use Rattle.leader_refinement.specs.Seen.{rank, content_of, entry_rank}
-use Rattle.leader_words.specs.declared.out.Outgoing.{Outgoing}
-use Rattle.sync_refinement.proofs.RequestRefinement.{looks_so}
-use Rattle.sync_refinement.specs.RequestRefinement.{hash_of, VersionSays, EntrySays, MapSays}
-use Rattle.sync_laws.specs.Facts.{Lines}
-use Rattle.sync_refinement.proofs.Staying.{version_stays}
-use Rattle.tree_maps.specs.Entries.{lookup}
-use Rattle.tree_refinement.specs.Trees.{AreFree}
+use Rattle.leader_output.specs.declared.out.Outgoing.{Outgoing}
+use Rattle.peer_refinement.proofs.Looks.{looks_so}
+use Rattle.peer_refinement.specs.Naming.{hash_of, VersionSays, EntrySays}
+use Rattle.peer_refinement.specs.Replies.{MapSays}
+use Rattle.role_laws.specs.Facts.{Lines}
+use Rattle.peer_refinement.proofs.SyncStaying.{version_stays}
+use Rattle.synctree.specs.Entries.{lookup}
+use Rattle.peer_refinement.specs.Trees.{AreFree}
 use Rattle.wire_frames.specs.declared.message.Message.{Message}
 use Rattle.wire_frames.specs.declared.message.Message.TheVariants as messages
 use Rattle.phase_rows.specs.declared.phase.Seen.TheVariants as seens

@@ -20,30 +20,30 @@ use Rattle.ens_base.specs.declared.epoch.Epoch.{Epoch}
 use Rattle.ens_base.specs.declared.epoch.Version.{Version}
 use Rattle.ens_base.specs.declared.reply.Reply.{Reply}
 use Rattle.ens_base.specs.declared.reply.Reply.TheVariants as replies
-use Rattle.ens_object.specs.Objects.{IsObject}
-use Rattle.ens_object.specs.declared.object.Object.{Object}
-use Rattle.kept_objects.specs.Kept.{matching}
-use Rattle.key_commands.specs.Commands.{register_of, verdict_of, stamp_verdict, blind_verdict}
-use Rattle.key_commands.specs.declared.verdict.Verdict.{Verdict}
-use Rattle.key_commands.specs.declared.verdict.Verdict.TheVariants.{Answer, Write}
-use Rattle.leader_words.specs.Outs.{rests, comes, leaves, and_own, and_answer, and_key}
-use Rattle.leader_words.specs.Sends.{is_other, sent_up_to}
-use Rattle.leader_words.specs.declared.out.LeadOut.{LeadOut}
-use Rattle.leader_words.specs.declared.out.Outgoing.{Outgoing}
-use Rattle.leader_words.specs.declared.out.Own.TheVariants as owns
-use Rattle.leading.specs.Leaders.{base, is_spent, decided, concluded, with_task}
-use Rattle.leading.specs.Puts.{write_settled, settled_for, acknowledged, put_for, acknowledged_by, row_35, row_35_reply}
-use Rattle.leading.specs.Rounds.{counts, asked, asked_for, heard, row_29, row_29_reply, without_object, on_found, on_greatest, on_best, by_state, gathered, gathered_for, row_30, begins_check, checked_for, row_33, goes_on_checking, stood, stood_at, row_33_reply, register_at, applied_for, row_34}
-use Rattle.leading.specs.Starts.{row_27, on_object, by_value, by_stamp, on_present, by_known, started, row_28, next_call, row_36}
-use Rattle.leading.specs.Ticks.{Finishing, is_late, aged, timed_out, and_key_if, row_5_calls}
-use Rattle.leading.specs.declared.leader.Leader.{Leader}
-use Rattle.leading.specs.declared.pending.Pending.{Pending}
-use Rattle.leading.specs.declared.pending.Pending.TheVariants as tasks
+use Rattle.stored_formats.specs.Objects.{IsObject}
+use Rattle.stored_formats.specs.declared.object.Object.{Object}
+use Rattle.object_commands.specs.Kept.{matching}
+use Rattle.object_commands.specs.Commands.{register_of, verdict_of, stamp_verdict, blind_verdict}
+use Rattle.object_commands.specs.declared.verdict.Verdict.{Verdict}
+use Rattle.object_commands.specs.declared.verdict.Verdict.TheVariants.{Answer, Write}
+use Rattle.leader_output.specs.Outs.{rests, comes, leaves, and_own, and_answer, and_key}
+use Rattle.leader_output.specs.Sends.{is_other, sent_up_to}
+use Rattle.leader_output.specs.declared.out.LeadOut.{LeadOut}
+use Rattle.leader_output.specs.declared.out.Outgoing.{Outgoing}
+use Rattle.leader_output.specs.declared.out.Own.TheVariants as owns
+use Rattle.leader.specs.Leaders.{base, is_spent, decided, concluded, with_task}
+use Rattle.leader.specs.Puts.{write_settled, settled_for, acknowledged, put_for, acknowledged_by, row_35, row_35_reply}
+use Rattle.leader.specs.Rounds.{counts, asked, asked_for, heard, row_29, row_29_reply, without_object, on_found, on_greatest, on_best, by_state, gathered, gathered_for, row_30, begins_check, checked_for, row_33, goes_on_checking, stood, stood_at, row_33_reply, register_at, applied_for, row_34}
+use Rattle.leader.specs.Starts.{row_27, on_object, by_value, by_stamp, on_present, by_known, started, row_28, next_call, row_36}
+use Rattle.leader.specs.Ticks.{Finishing, is_late, aged, timed_out, and_key_if, row_5_calls}
+use Rattle.leader.specs.declared.leader.Leader.{Leader}
+use Rattle.leader.specs.declared.pending.Pending.{Pending}
+use Rattle.leader.specs.declared.pending.Pending.TheVariants as tasks
 use Rattle.phase_rows.specs.Orders.{is_same}
-use Rattle.quorum_round.specs.Rounds.{begun, answered as heard_from, state_of}
-use Rattle.quorum_round.specs.declared.round.Round.{Round}
-use Rattle.quorum_round.specs.declared.round.RoundState.{RoundState}
-use Rattle.quorum_round.specs.declared.round.RoundState.TheVariants.{Open, Met, AllAnswered}
+use Rattle.quorums.specs.Rounds.{begun, answered as heard_from, state_of}
+use Rattle.quorums.specs.declared.round.Round.{Round}
+use Rattle.quorums.specs.declared.round.RoundState.{RoundState}
+use Rattle.quorums.specs.declared.round.RoundState.TheVariants.{Open, Met, AllAnswered}
 use Rattle.register_model.specs.Registers.{outcome}
 use Rattle.register_model.specs.declared.register.Register.TheVariants as registers
 use Rattle.tree_node.specs.declared.position.Position.{Position}

@@ -3,21 +3,21 @@ use Rattle.std.specs.Prelude.{All, map}
 use Rattle.std.proofs.Common.{◌≡◌, ◌⊎◌, inl, inr, ℕ, Bool, false, List, [], ◌∷◌, ◌++◌, append_assoc, append-nil, Option, None, sym, ap, subst, ◌∙◌}
 use Rattle.std.proofs.lemmas.Bool.{true≢false}
 use Rattle.std.proofs.lemmas.List.Elements.{All-nil}
-use Rattle.abstract_protocol.specs.Protocol.{State}
-use Rattle.tree_refinement.specs.HeldStores.{Held}
-use Rattle.leader_laws.specs.Tables.{Ghosts, Owed}
+use Rattle.protocol_laws.specs.Protocol.{State}
+use Rattle.peer_refinement.specs.WorldSpec.{Held}
+use Rattle.role_laws.specs.Tables.{Ghosts, Owed}
 use Rattle.leader_refinement.specs.Follows.{GoesOn, Ends as LeaderEnds, Follows, NextFits, IsReadyFor}
 use Rattle.leader_refinement.specs.Seen.{owed_after}
-use Rattle.leader_words.specs.Outs.{leaves, comes}
-use Rattle.leader_words.specs.declared.out.AnswerOut.{AnswerOut}
-use Rattle.leader_words.specs.declared.out.LeadOut.{LeadOut}
-use Rattle.leader_words.specs.declared.out.Outgoing.{Outgoing}
-use Rattle.leader_words.specs.declared.out.Own.{Own}
-use Rattle.leading.specs.Ticks.{left_answer}
-use Rattle.leading.specs.declared.leader.Leader.{Leader}
-use Rattle.peer_plan.specs.Drives.{followed_up, and_row, lead_done}
+use Rattle.leader_output.specs.Outs.{leaves, comes}
+use Rattle.leader_output.specs.declared.out.AnswerOut.{AnswerOut}
+use Rattle.leader_output.specs.declared.out.LeadOut.{LeadOut}
+use Rattle.leader_output.specs.declared.out.Outgoing.{Outgoing}
+use Rattle.leader_output.specs.declared.out.Own.{Own}
+use Rattle.leader.specs.Ticks.{left_answer}
+use Rattle.leader.specs.declared.leader.Leader.{Leader}
+use Rattle.peer_spec.specs.Drives.{followed_up, and_row, lead_done}
 use Rattle.peer_state.specs.Moves.{follower, left, left_answers, untrusted, and_answers, leading, with_leader, turned, turned_answers}
-use Rattle.peer_plan.specs.Syncs.{and_sends}
+use Rattle.peer_spec.specs.Syncs.{and_sends}
 use Rattle.peer_state.specs.declared.state.Leadership.{Leadership}
 use Rattle.peer_state.specs.declared.state.State.{State as PeerState}
 use Rattle.register_model.specs.declared.note.Note.{Note}

@@ -4,26 +4,26 @@ use Rattle.std.proofs.lemmas.Bool.{false≢true}
 use Rattle.ens_base.specs.Lists.{same_bytes}
 use Rattle.ens_base.specs.declared.epoch.Version.{Version}
 use Rattle.ens_base.specs.declared.reply.Reply.{Reply}
-use Rattle.ens_object.specs.declared.object.Object.{Object}
+use Rattle.stored_formats.specs.declared.object.Object.{Object}
 use Rattle.call_table.specs.Rows.{row_at}
 use Rattle.call_table.specs.declared.row.KeyRow.{KeyRow}
 use Rattle.call_table.specs.declared.row.Stage.TheVariants as stages
-use Rattle.tree_refinement.specs.HeldStores.{Held}
+use Rattle.peer_refinement.specs.WorldSpec.{Held}
 use Rattle.leader_refinement.proofs.Answers.{run_applies}
 use Rattle.leader_refinement.proofs.Checks.{run_checks}
 use Rattle.leader_refinement.proofs.Gathering.{run_reads}
 use Rattle.leader_refinement.proofs.Starts.{run_starts, run_next}
 use Rattle.leader_refinement.specs.Follows.{GoesOn, IsReadyFor}
 use Rattle.leader_refinement.specs.Seen.{owed_after}
-use Rattle.leader_words.specs.Outs.{rests, and_own, and_note}
-use Rattle.leader_words.specs.declared.out.LeadOut.{LeadOut}
-use Rattle.leader_words.specs.declared.out.Own.TheVariants as owns
-use Rattle.leading.specs.Rules.{lead_row}
-use Rattle.leading_laws.specs.Steps.{Fits, IsReady, KeepsOthers, Runs}
-use Rattle.leading.specs.declared.leader.Leader.{Leader}
-use Rattle.leading.specs.declared.pending.Pending.{Pending}
-use Rattle.leading.specs.declared.pending.Pending.TheVariants as pendings
-use Rattle.leading_laws.proofs.Moves.{no_task}
+use Rattle.leader_output.specs.Outs.{rests, and_own, and_note}
+use Rattle.leader_output.specs.declared.out.LeadOut.{LeadOut}
+use Rattle.leader_output.specs.declared.out.Own.TheVariants as owns
+use Rattle.leader.specs.Rules.{lead_row}
+use Rattle.leader_laws.specs.Steps.{Fits, IsReady, KeepsOthers, Runs}
+use Rattle.leader.specs.declared.leader.Leader.{Leader}
+use Rattle.leader.specs.declared.pending.Pending.{Pending}
+use Rattle.leader.specs.declared.pending.Pending.TheVariants as pendings
+use Rattle.leader_laws.proofs.Moves.{no_task}
 use Rattle.peer_state.specs.Moves.{leading, with_leader}
 use Rattle.peer_state.specs.declared.state.Leadership.{Leadership}
 use Rattle.peer_state.specs.declared.state.Phase.{Phase}

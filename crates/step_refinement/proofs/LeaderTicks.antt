@@ -10,7 +10,7 @@ use Rattle.election_refinement.proofs.Tests.{by_test}
 use Rattle.election_refinement.specs.Refinement.{IsLeading}
 use Rattle.ens_base.proofs.Lists.{bytes_same, bytes_itself}
 use Rattle.ens_base.specs.Lists.{◌∈◌, same_bytes}
-use Rattle.abstract_protocol.specs.Protocol.{State}
+use Rattle.protocol_laws.specs.Protocol.{State}
 use Rattle.call_table.specs.Calls.{is_due, key_if_running, due_after, due, waiting_on, running}
 use Rattle.call_table.specs.Rows.{row_at}
 use Rattle.call_table.specs.Tables.{late_put, without_due}
@@ -18,21 +18,21 @@ use Rattle.call_table.specs.declared.row.Stage.TheVariants as stages
 use Rattle.call_table.specs.declared.waiting.DueCall.{DueCall}
 use Rattle.call_table.specs.declared.waiting.Waiting.{Waiting}
 use Rattle.ens_base.specs.declared.reply.Reply.TheVariants as replies
-use Rattle.tree_refinement.specs.HeldStores.{Held}
-use Rattle.leader_laws.specs.Tables.{Ghosts, Owed}
+use Rattle.peer_refinement.specs.WorldSpec.{Held}
+use Rattle.role_laws.specs.Tables.{Ghosts, Owed}
 use Rattle.leader_refinement.proofs.Ticks.{run_ticks}
 use Rattle.leader_refinement.specs.Follows.{Ends as LeaderEnds, TimesOut, SentSays, TaskHolds}
 use Rattle.leader_refinement.specs.Seen.{owed_after}
-use Rattle.leader_words.specs.Outs.{comes, leaves, and_answer}
-use Rattle.leader_words.specs.declared.out.LeadOut.{LeadOut}
-use Rattle.leading.specs.Ticks.{Finishing, is_late, aged, timed_out, and_key_if, row_5_calls}
-use Rattle.leading.specs.declared.leader.Leader.{Leader}
-use Rattle.leading.specs.declared.pending.Pending.{Pending}
-use Rattle.leading.specs.declared.pending.Pending.TheVariants as pendings
-use Rattle.peer_plan.specs.Drives.{lead_done, led_in}
+use Rattle.leader_output.specs.Outs.{comes, leaves, and_answer}
+use Rattle.leader_output.specs.declared.out.LeadOut.{LeadOut}
+use Rattle.leader.specs.Ticks.{Finishing, is_late, aged, timed_out, and_key_if, row_5_calls}
+use Rattle.leader.specs.declared.leader.Leader.{Leader}
+use Rattle.leader.specs.declared.pending.Pending.{Pending}
+use Rattle.leader.specs.declared.pending.Pending.TheVariants as pendings
+use Rattle.peer_spec.specs.Drives.{lead_done, led_in}
 use Rattle.peer_state.specs.Leading.{older, end_of}
 use Rattle.peer_state.specs.Moves.{and_answers, leading, with_leader, turned, turned_answers}
-use Rattle.peer_plan.specs.Syncs.{and_sends}
+use Rattle.peer_spec.specs.Syncs.{and_sends}
 use Rattle.peer_state.specs.declared.state.Leadership.{Leadership}
 use Rattle.peer_state.specs.declared.state.Phase.TheVariants as phases
 use Rattle.peer_state.specs.declared.state.State.{State as PeerState}

@@ -4,11 +4,11 @@ use Rattle.std.specs.Prelude.{All, map}
 use Rattle.std.proofs.Common.{◌≡◌, ℕ, Bool, true, false, List, [], ◌++◌, append_assoc, Option, None, Some, refl, sym, ap, subst, ◌∙◌}
 use Rattle.std.proofs.lemmas.Bool.{false≢true}
 use Rattle.std.proofs.lemmas.List.Elements.{All-append, All-weaker}
-use Rattle.abstract_protocol.proofs.Steps.{onto_run, onto_state}
-use Rattle.abstract_protocol.specs.Ledger.{Ledger, Place, put, is_established}
-use Rattle.abstract_protocol.specs.Numbers.{epoch_number}
-use Rattle.abstract_protocol.specs.Objects.{Map}
-use Rattle.abstract_protocol.specs.Protocol.{State, Step, IsRun, state_after, after, MayAll, onto}
+use Rattle.protocol_laws.proofs.Steps.{onto_run, onto_state}
+use Rattle.protocol_laws.specs.Ledger.{Ledger, Place, put, is_established}
+use Rattle.protocol_laws.specs.Numbers.{epoch_number}
+use Rattle.protocol_laws.specs.Objects.{Map}
+use Rattle.protocol_laws.specs.Protocol.{State, Step, IsRun, state_after, after, MayAll, onto}
 use Rattle.call_table.specs.Calls.{running}
 use Rattle.call_table.specs.Rows.{row_at}
 use Rattle.election_refinement.proofs.Keeps.{keeps_none}
@@ -16,40 +16,41 @@ use Rattle.election_refinement.specs.Keeps.{Keeps}
 use Rattle.election_refinement.proofs.Listed.{listed_leader}
 use Rattle.election_refinement.specs.Listed.{IsListedPeer, IsListedMessage}
 use Rattle.election_refinement.specs.Refinement.{PeerHolds, SyncHolds, SendHolds, IsOrderly, IsLeading, IsStarted}
-use Rattle.entry_laws.proofs.Later.{stay_after}
+use Rattle.protocol_laws.proofs.Later.{stay_after}
 use Rattle.ens_base.specs.declared.epoch.Epoch.{Epoch}
-use Rattle.tree_refinement.specs.HeldStores.{Held}
-use Rattle.leader_laws.proofs.Roles.{run_roles}
-use Rattle.leader_laws.specs.Leaders.{TurnsHold}
-use Rattle.leader_laws.specs.Moves.{IsLeaderMove}
-use Rattle.leader_laws.specs.Roles.{Follows as FollowsRole, Leads, Sent, IsLeaderOf, RolesHold, RolesMove}
-use Rattle.leader_laws.specs.Tables as theory
-use Rattle.leader_laws.specs.Tables.{Ghosts, Owed, timeouts}
+use Rattle.peer_refinement.specs.WorldSpec.{Held}
+use Rattle.role_laws.proofs.Roles.{run_roles}
+use Rattle.role_laws.specs.Leaders.{TurnsHold}
+use Rattle.role_laws.specs.Moves.{IsLeaderMove}
+use Rattle.role_laws.specs.Roles.{Follows as FollowsRole, Leads, Sent, IsLeaderOf, RolesHold, RolesMove}
+use Rattle.role_laws.specs.Tables as theory
+use Rattle.role_laws.specs.Tables.{Ghosts, Owed, timeouts}
 use Rattle.leader_refinement.proofs.Leaving.{run_leaves, run_changes}
 use Rattle.leader_refinement.proofs.Steps.{steps_keep, acks_shown}
 use Rattle.leader_refinement.specs.Follows.{LeaderFits, TaskHolds, IsAtWork, SentSays, AreLeaderSteps, IsKept, Follows}
 use Rattle.leader_refinement.specs.Seen.{ids_of, table_of, owed_after}
-use Rattle.leader_words.specs.declared.out.AnswerOut.{AnswerOut}
-use Rattle.leader_words.specs.declared.out.LeadOut.{LeadOut}
-use Rattle.leader_words.specs.declared.out.Outgoing.{Outgoing}
-use Rattle.leading.specs.Ticks.{left_answer}
-use Rattle.leading.specs.declared.leader.Leader.{Leader}
-use Rattle.leading.specs.declared.pending.Pending.TheVariants as tasks
+use Rattle.leader_output.specs.declared.out.AnswerOut.{AnswerOut}
+use Rattle.leader_output.specs.declared.out.LeadOut.{LeadOut}
+use Rattle.leader_output.specs.declared.out.Outgoing.{Outgoing}
+use Rattle.leader.specs.Ticks.{left_answer}
+use Rattle.leader.specs.declared.leader.Leader.{Leader}
+use Rattle.leader.specs.declared.pending.Pending.TheVariants as tasks
 use Rattle.peer_state.specs.Moves.{follower, and_answers, leading, with_leader}
-use Rattle.peer_plan.specs.Syncs.{and_sends}
+use Rattle.peer_spec.specs.Syncs.{and_sends}
 use Rattle.peer_state.specs.declared.state.Leadership.{Leadership}
 use Rattle.peer_state.specs.declared.state.Phase.{Phase}
 use Rattle.peer_state.specs.declared.state.Phase.TheVariants as phases
 use Rattle.peer_state.specs.declared.state.State.{State as PeerState}
-use Rattle.peer_fact.specs.declared.fact.Fact.{Fact}
+use Rattle.stored_formats.specs.declared.fact.Fact.{Fact}
 use Rattle.register_model.specs.declared.note.Note.{Note}
-use Rattle.sync_refinement.proofs.RequestRefinement.{run_serves}
-use Rattle.sync_refinement.specs.RequestRefinement.{hash_of, MapSays, Serves}
-use Rattle.running_sync.specs.Running.{Running}
+use Rattle.peer_refinement.proofs.Replying.{run_serves}
+use Rattle.peer_refinement.specs.Naming.{hash_of}
+use Rattle.peer_refinement.specs.Replies.{MapSays, Serves}
+use Rattle.tree_sync.specs.Running.{Running}
 use Rattle.step_plans.specs.Plans.{Out}
 use Rattle.step_plans.specs.Saved.{bare}
-use Rattle.sync_refinement.proofs.Gives.{trusted_maps}
-use Rattle.version_laws.proofs.Maps.{put_here}
+use Rattle.peer_refinement.proofs.Gives.{trusted_maps}
+use Rattle.protocol_laws.proofs.Maps.{put_here}
 use Rattle.step_refinement.specs.Scenes.{Scene, state_before, Elsewhere, now, Here, AtRest}
 use Rattle.step_refinement.proofs.Stretches.{role_here, role_replaced, role_once, owed_both, elsewhere_then}
 use Rattle.step_refinement.proofs.SentMessages.{says_more}

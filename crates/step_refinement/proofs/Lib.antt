@@ -33,4 +33,4 @@ pub mod AllEvents
 pub mod LaterStates
 pub mod KeptTrust
 pub mod ElectionRefinement
-pub mod SyncRefinement
+pub mod PeerRefinement

@@ -2,30 +2,30 @@
 -- sync runs.
 use Rattle.std.specs.Prelude.{All}
 use Rattle.std.proofs.Common.{◌≡◌, ℕ, true, false, List, [], ◌∷◌, ◌++◌, Option, None, refl, sym, subst, ◌∙◌}
-use Rattle.abstract_protocol.specs.Ledger.{put}
-use Rattle.abstract_protocol.specs.Protocol.{State, Lose, happens}
+use Rattle.protocol_laws.specs.Ledger.{put}
+use Rattle.protocol_laws.specs.Protocol.{State, Lose, happens}
 use Rattle.election_refinement.proofs.Keeps.{keeps_none}
 use Rattle.election_refinement.proofs.Listed.{listed_untrusted}
 use Rattle.election_refinement.proofs.Requests.{turned_fits}
 use Rattle.election_refinement.proofs.Whole.{here}
 use Rattle.election_refinement.specs.Listed.{IsListedPeer, IsListedMessage}
 use Rattle.election_refinement.specs.Refinement.{PeerHolds, SendHolds}
-use Rattle.entry_laws.proofs.Later.{stay_step}
-use Rattle.entry_laws.specs.Stays.{EntriesStay}
-use Rattle.tree_refinement.specs.HeldStores.{Held}
-use Rattle.leader_laws.proofs.Roles.{run_roles}
-use Rattle.leader_laws.specs.Roles.{RolesHold}
-use Rattle.leader_laws.specs.Tables.{Owed}
+use Rattle.protocol_laws.proofs.Later.{stay_step}
+use Rattle.protocol_laws.specs.Stays.{EntriesStay}
+use Rattle.peer_refinement.specs.WorldSpec.{Held}
+use Rattle.role_laws.proofs.Roles.{run_roles}
+use Rattle.role_laws.specs.Roles.{RolesHold}
+use Rattle.role_laws.specs.Tables.{Owed}
 use Rattle.leader_refinement.specs.Seen.{owed_after}
-use Rattle.leader_words.specs.declared.out.Outgoing.{Outgoing}
+use Rattle.leader_output.specs.declared.out.Outgoing.{Outgoing}
 use Rattle.peer_state.specs.Moves.{left_answers, stopped_leading, timeouts, untrusted, without_candidacy}
 use Rattle.peer_state.specs.declared.state.State.{State as PeerState}
 use Rattle.register_model.specs.declared.note.Note.{Note}
-use Rattle.running_sync.specs.Running.{Running}
+use Rattle.tree_sync.specs.Running.{Running}
 use Rattle.step_plans.specs.Plans.{Out}
 use Rattle.step_plans.specs.Saved.{bare}
-use Rattle.sync_refinement.proofs.Staying.{version_stays}
-use Rattle.version_laws.proofs.Maps.{put_here, put_other}
+use Rattle.peer_refinement.proofs.SyncStaying.{version_stays}
+use Rattle.protocol_laws.proofs.Maps.{put_here, put_other}
 use Rattle.phase_rows.specs.declared.phase.Then.TheVariants as thens
 use Rattle.step_refinement.proofs.CallByCall.{rest_task}
 use Rattle.step_refinement.specs.Scenes.{Scene, Reached, state_before, now, Elsewhere, AtRest}

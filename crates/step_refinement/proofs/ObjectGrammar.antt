@@ -1,77 +1,38 @@
 -- The objects of versions obey the grammar, in a run whose calls keep their limits and whose epochs have a count
 -- of 64 bits.
-use Rattle.std.specs.Prelude.{nat_lt, nat_le}
-use Rattle.std.proofs.Common.{◌*◌, ◌≡◌, ◌⊎◌, inl, inr, ◌<◌, ◌≤◌, ◌^◌, ◌+◌, ℕ, ◌==◌, ◌&&◌, Bool, true, false, eqb-true, List, [], ◌∷◌, length, Option, Some, None, lit≤, arith, refl, sym, ap, subst, ◌∙◌}
+use Rattle.std.proofs.Common.{◌*◌, ◌≡◌, ◌⊎◌, inl, inr, ◌<◌, ◌≤◌, ◌^◌, ◌+◌, ℕ, ◌==◌, Bool, true, false, eqb-true, List, [], ◌∷◌, Option, Some, None, arith, refl, sym, ap, subst, ◌∙◌}
 use Rattle.std.proofs.lemmas.Bool.{false≢true, true≢false}
 use Rattle.std.proofs.lemmas.Bool.Decides.{nat_tests}
-use Rattle.std.proofs.lemmas.List.{length-append}
-use Rattle.byteorder.specs.Endian.{big_number}
-use Rattle.ens_base.specs.Epochs.{same_version}
-use Rattle.ens_base.specs.Limits.{IsKey, IsValue, IsVersion, IsCommand}
-use Rattle.ens_base.specs.Lists.{same_bytes}
-use Rattle.ens_base.specs.declared.command.Command.{Command}
-use Rattle.ens_base.specs.declared.command.Command.TheVariants.{Get, PutOnce, Update, Append, Add, Swap, Over, Delete}
+use Rattle.ens_base.specs.Limits.{IsKey, IsVersion, IsCommand}
 use Rattle.ens_base.specs.declared.epoch.Version.{Version}
-use Rattle.ens_base.proofs.ByteLists.{bytes_both, number_bytes}
-use Rattle.ens_object.specs.Objects.{IsObject, IsContent}
-use Rattle.register_model.specs.Registers.{Outcome, Keeps, Writes, outcome, written}
+use Rattle.stored_formats.specs.Objects.{IsObject, IsContent}
+use Rattle.register_model.specs.Registers.{written}
 use Rattle.register_model.specs.declared.call.Call.{Call}
-use Rattle.register_model.specs.declared.register.Register.{Register}
-use Rattle.register_model.specs.declared.register.Register.TheVariants.{Absent, Present}
-use Rattle.abstract_protocol.specs.Book.{version_of, register_at, MayWriteFor, MayRewrite}
-use Rattle.abstract_protocol.specs.Numbers as numbers
-use Rattle.abstract_protocol.specs.Numbers.{epoch_number}
-use Rattle.abstract_protocol.specs.Objects.{epoch_of, MayBegin, IsNewest, MayPropose}
-use Rattle.abstract_protocol.specs.Protocol.{State, Step, Propose, IsRun, state_after, happens, MayCome}
+use Rattle.register_model.specs.declared.register.Register.TheVariants.{Absent}
+use Rattle.protocol_laws.specs.Book.{version_of, register_at, MayWriteFor, MayRewrite}
+use Rattle.protocol_laws.specs.Numbers as numbers
+use Rattle.protocol_laws.specs.Numbers.{epoch_number}
+use Rattle.protocol_laws.specs.Objects.{epoch_of, MayBegin, IsNewest, MayPropose}
+use Rattle.protocol_laws.specs.Protocol.{State, Step, Propose, IsRun, state_after, happens, MayCome}
 use Rattle.election_refinement.proofs.Tests.{by_test}
-use Rattle.election_laws.specs.Preparing.{proposer_of}
+use Rattle.protocol_laws.specs.Preparing.{proposer_of}
 use Rattle.election_refinement.specs.Listed.{IsListedFact}
 use Rattle.election_refinement.specs.Refinement.{IsSaved}
-use Rattle.entry_laws.proofs.Later.{stay_step}
-use Rattle.entry_laws.specs.Stays.{EntriesStay}
-use Rattle.tree_refinement.specs.HeldStores.{Held}
-use Rattle.leader_laws.specs.Tables as theory
+use Rattle.protocol_laws.proofs.Later.{stay_step}
+use Rattle.protocol_laws.specs.Stays.{EntriesStay}
+use Rattle.peer_refinement.specs.WorldSpec.{Held}
+use Rattle.object_commands.proofs.Outcomes.{RegisterFits, OutcomeFits, outcome_fits}
+use Rattle.role_laws.specs.Tables as theory
 use Rattle.leader_refinement.specs.Seen.{rank}
-use Rattle.sync_refinement.specs.RequestRefinement.{object_of_version}
+use Rattle.peer_refinement.specs.Naming.{object_of_version}
 use Rattle.peer_state.specs.declared.state.State.{State as PeerState}
-use Rattle.peer_fact.specs.declared.fact.Fact.{Fact}
+use Rattle.stored_formats.specs.declared.fact.Fact.{Fact}
 use Rattle.register_model.specs.declared.note.Note.{Note}
 use Rattle.step_plans.specs.Plans.{Out}
-use Rattle.version_laws.proofs.Maps.{put_here, put_other}
-use Rattle.version_laws.proofs.Trees.{run_versions}
+use Rattle.protocol_laws.proofs.Maps.{put_here, put_other}
+use Rattle.protocol_laws.proofs.Trees.{run_versions}
 use Rattle.step_refinement.specs.Scenes.{Scene, Reached, state_before, now, Here}
 use Rattle.step_refinement.specs.Peers.{AsksFit, EpochsFit}
-
--- ## Contents
-
--- the value of a register keeps its limits
-abbrev RegisterFits : Register → Type 0
-RegisterFits Absent = Unit {0}
-RegisterFits (Present stamp bytes) = IsValue bytes
-
--- so does what a command writes
-abbrev OutcomeFits : Outcome → Type 0
-OutcomeFits (Keeps reply) = Unit {0}
-OutcomeFits (Writes content) = IsContent content
-
-outcome_fits : (command : Command) (register : Register) → IsCommand command → RegisterFits register → OutcomeFits (outcome command register)
-outcome_fits Get Absent fits has = tt
-outcome_fits Get (Present stamp bytes) fits has = tt
-outcome_fits (PutOnce value) Absent fits has = fits
-outcome_fits (PutOnce value) (Present stamp bytes) fits has = tt
-outcome_fits (Update wanted value) Absent fits has = tt
-outcome_fits (Update wanted value) (Present stamp bytes) fits has = by_test OutcomeFits (same_version wanted stamp) _ _ (λ is. fits.1) (λ not. tt)
-outcome_fits (Append tail) Absent fits has = tt
-outcome_fits (Append tail) (Present stamp bytes) fits has = by_test OutcomeFits (nat_le (length bytes + length tail) 1024) _ _ (λ is. record { size = subst (λ n. n ≤ 1024) (sym (length-append bytes tail)) (within (length bytes + length tail) is); bytes = bytes_both bytes tail has.bytes fits.bytes }) (λ not. tt)
-  where
-    within : (n : ℕ) → nat_le n 1024 ≡ true → n ≤ 1024
-    within n is = grind (arith, nat_tests)
-outcome_fits (Add n) Absent fits has = tt
-outcome_fits (Add n) (Present stamp bytes) fits has = by_test OutcomeFits (length bytes == 8 && nat_lt (big_number 8 bytes + n) (2 ^ 64)) _ _ (λ is. record { size = lit≤ tt; bytes = number_bytes 8 (big_number 8 bytes + n) }) (λ not. tt)
-outcome_fits (Swap old new) Absent fits has = tt
-outcome_fits (Swap old new) (Present stamp bytes) fits has = by_test OutcomeFits (same_bytes bytes old) _ _ (λ is. fits.1) (λ not. tt)
-outcome_fits (Over value) register fits has = fits
-outcome_fits Delete register fits has = tt
 
 -- ## Versions
 

@@ -3,18 +3,18 @@
 use Rattle.std.proofs.Common.{◌≡◌, ℕ, ◌+◌, ◌-◌, ◌^◌, Bool, not, ◌&&◌, ◌||◌, ◌==◌, List, Option, None, Some, refl}
 use Rattle.ens_base.specs.PeerSet.{holds}
 use Rattle.ens_base.specs.declared.epoch.Epoch.{Epoch}
-use Rattle.abstract_protocol.specs.Protocol.{State as Protocol}
+use Rattle.protocol_laws.specs.Protocol.{State as Protocol}
 use Rattle.call_table.specs.Calls.{has_calls}
-use Rattle.election.specs.Ballots.{row_11, row_15}
-use Rattle.election.specs.Preparing.{first_fact}
-use Rattle.election.specs.declared.election.Election.{Election}
-use Rattle.election.specs.declared.election.Election.TheVariants.{Preparing, Starting}
+use Rattle.phase_rules.specs.Ballots.{row_11, row_15}
+use Rattle.phase_rules.specs.Preparing.{first_fact}
+use Rattle.phase_rules.specs.declared.election.Election.{Election}
+use Rattle.phase_rules.specs.declared.election.Election.TheVariants.{Preparing, Starting}
 use Rattle.election_refinement.proofs.Elections.{starts_either}
 use Rattle.election_refinement.proofs.Tests.{by_test}
-use Rattle.following.specs.Announcements.{row_16, row_18, row_19, commits}
-use Rattle.following.specs.Refusals.{unless_refused}
-use Rattle.following.specs.declared.follower.Follower.{Follower}
-use Rattle.joint_views.specs.Quorums.{is_quorum, is_member}
+use Rattle.phase_rules.specs.Announcements.{row_16, row_18, row_19, commits}
+use Rattle.phase_rules.specs.Refusals.{unless_refused}
+use Rattle.phase_rules.specs.declared.follower.Follower.{Follower}
+use Rattle.quorums.specs.Quorums.{is_quorum, is_member}
 use Rattle.peer_state.specs.Rows.{aged, asked_change, begun_change, changes, leads, ended, phase_row, prepared, received, runs_sync, while_8, while_9, while_10, while_12, while_13, while_14, while_15, while_17, while_25, while_26}
 use Rattle.peer_state.specs.declared.state.ChangeState.{ChangeState}
 use Rattle.peer_state.specs.declared.state.ChangeState.TheVariants.{Settled, Wanted, Finishing as Finishes}
@@ -22,13 +22,13 @@ use Rattle.peer_state.specs.declared.state.Leadership.{Leadership}
 use Rattle.peer_state.specs.declared.state.Phase.{Phase}
 use Rattle.peer_state.specs.declared.state.Phase.TheVariants as phases
 use Rattle.peer_state.specs.declared.state.State.{State}
-use Rattle.peer_fact.specs.Facts.{views_after}
-use Rattle.peer_fact.specs.declared.fact.Fact.{Fact}
+use Rattle.stored_formats.specs.Facts.{views_after}
+use Rattle.stored_formats.specs.declared.fact.Fact.{Fact}
 use Rattle.phase_rows.specs.Orders.{is_below, is_same, is_newer, may_accept}
 use Rattle.phase_rows.specs.Rows.{leaves_leading}
-use Rattle.probe.specs.declared.probing.Probing.{Probing}
-use Rattle.sync_laws.specs.Facts.{Lines}
-use Rattle.view_change.specs.Changes.{may_change}
+use Rattle.phase_rules.specs.declared.probing.Probing.{Probing}
+use Rattle.role_laws.specs.Facts.{Lines}
+use Rattle.phase_rules.specs.Changes.{may_change}
 use Rattle.wire_frames.specs.declared.message.Message.{Message}
 use Rattle.wire_frames.specs.declared.message.Message.TheVariants as messages
 use Rattle.wire_frames.specs.declared.message.NackCause.{NackCause}

@@ -2,33 +2,33 @@
 -- steps down and its calls are answered, an epoch begins, or the peer becomes its leader.
 use Rattle.std.proofs.Common.{◌≡◌, inl, inr, ℕ, Bool, true, false, List, [], refl, ap, sym, subst, ◌∙◌}
 use Rattle.ens_base.specs.declared.epoch.Epoch.{Epoch}
-use Rattle.abstract_protocol.specs.Ledger.{Ledger}
-use Rattle.abstract_protocol.specs.Numbers.{epoch_number}
-use Rattle.abstract_protocol.specs.Protocol.{State, Step, IsRun, state_after}
+use Rattle.protocol_laws.specs.Ledger.{Ledger}
+use Rattle.protocol_laws.specs.Numbers.{epoch_number}
+use Rattle.protocol_laws.specs.Protocol.{State, Step, IsRun, state_after}
 use Rattle.call_table.specs.Calls.{running}
 use Rattle.call_table.specs.Rows.{row_at}
-use Rattle.election.specs.declared.election.Election.TheVariants.{Preparing, Starting}
-use Rattle.election_laws.specs.Preparing.{proposer_of}
+use Rattle.phase_rules.specs.declared.election.Election.TheVariants.{Preparing, Starting}
+use Rattle.protocol_laws.specs.Preparing.{proposer_of}
 use Rattle.election_refinement.proofs.Numbers.{proposer_of-number}
 use Rattle.election_refinement.proofs.Parts.{Part, Out as Outside, Begun, Led, uncounted, part, Turns}
 use Rattle.election_refinement.specs.Refinement.{PhaseHolds, IsLeading, IsStarted}
-use Rattle.leader_laws.specs.Leaders.{TurnsHold, OwesHold, IsUnled}
-use Rattle.leader_laws.specs.Roles.{IsLeaderOf, RoleHolds}
-use Rattle.leader_laws.specs.Tables.{Ghosts, Owed}
+use Rattle.role_laws.specs.Leaders.{TurnsHold, OwesHold, IsUnled}
+use Rattle.role_laws.specs.Roles.{IsLeaderOf, RoleHolds}
+use Rattle.role_laws.specs.Tables.{Ghosts, Owed}
 use Rattle.leader_refinement.proofs.Leaving.{run_leaves}
 use Rattle.leader_refinement.proofs.Openings.{run_begins}
 use Rattle.leader_refinement.specs.Follows.{Hash, LeaderFits, TaskHolds, IsAtWork}
 use Rattle.leader_refinement.specs.Seen.{table_of, owed_after}
-use Rattle.leading.specs.Leaders.{new_leader}
-use Rattle.leading.specs.declared.leader.Leader.{Leader}
-use Rattle.leading.specs.declared.pending.Pending.{Pending}
-use Rattle.leading.specs.declared.pending.Pending.TheVariants as pendings
+use Rattle.leader.specs.Leaders.{new_leader}
+use Rattle.leader.specs.declared.leader.Leader.{Leader}
+use Rattle.leader.specs.declared.pending.Pending.{Pending}
+use Rattle.leader.specs.declared.pending.Pending.TheVariants as pendings
 use Rattle.peer_state.specs.Moves.{accepts_in, left, left_answers, stopped_leading, timeouts, turned, turned_answers, without_candidacy}
 use Rattle.peer_state.specs.declared.state.ChangeState.TheVariants.{Settled}
 use Rattle.peer_state.specs.declared.state.Phase.{Phase}
 use Rattle.peer_state.specs.declared.state.Phase.TheVariants as phases
 use Rattle.peer_state.specs.declared.state.State.{State as PeerState}
-use Rattle.peer_fact.specs.declared.fact.Fact.{Fact}
+use Rattle.stored_formats.specs.declared.fact.Fact.{Fact}
 use Rattle.step_plans.specs.Plans.{Out}
 use Rattle.phase_rows.specs.declared.phase.Then.{Then}
 use Rattle.phase_rows.specs.declared.phase.Then.TheVariants as thens

@@ -5,9 +5,9 @@ use Rattle.std.specs.Prelude.{All}
 use Rattle.std.proofs.Common.{◌≡◌, ◌⊎◌, inl, inr, ℕ, Bool, false, List, [], ◌++◌, Option, Some, None, refl, ap, sym, subst, ◌∙◌}
 use Rattle.std.proofs.lemmas.List.Elements.{All-nil, All-append}
 use Rattle.ens_base.specs.declared.entry.Entry.{Entry}
-use Rattle.abstract_protocol.specs.Ledger.{Ledger, put}
-use Rattle.abstract_protocol.specs.Numbers.{epoch_number}
-use Rattle.abstract_protocol.specs.Protocol.{State, Step, state_after}
+use Rattle.protocol_laws.specs.Ledger.{Ledger, put}
+use Rattle.protocol_laws.specs.Numbers.{epoch_number}
+use Rattle.protocol_laws.specs.Protocol.{State, Step, state_after}
 use Rattle.election_refinement.proofs.Keeps.{sends_keep}
 use Rattle.election_refinement.proofs.Listed.{GoesListed}
 use Rattle.election_refinement.proofs.Parts.{Begun, part, PartGoes}
@@ -16,23 +16,23 @@ use Rattle.election_refinement.proofs.Sets.{posted_to_hold}
 use Rattle.election_refinement.proofs.Whole.{RowGoes}
 use Rattle.election_refinement.specs.Listed.{IsListedMessage, SaysListed, IsListedThen}
 use Rattle.election_refinement.specs.Refinement.{PeerHolds, PhaseHolds, may_wait, SendHolds}
-use Rattle.tree_refinement.specs.HeldStores.{Answered, answered, with_facts, Held}
-use Rattle.leader_laws.proofs.Runs.{run_leaders}
-use Rattle.leader_laws.specs.Leaders.{IsUnled}
-use Rattle.leader_laws.specs.Roles.{RolesHold}
-use Rattle.leader_laws.specs.Tables.{Ghosts, Owed}
+use Rattle.peer_refinement.specs.WorldSpec.{Answered, answered, with_facts, Held}
+use Rattle.role_laws.proofs.Runs.{run_leaders}
+use Rattle.role_laws.specs.Leaders.{IsUnled}
+use Rattle.role_laws.specs.Roles.{RolesHold}
+use Rattle.role_laws.specs.Tables.{Ghosts, Owed}
 use Rattle.leader_refinement.specs.Seen.{owed_after}
-use Rattle.leader_words.specs.declared.out.Outgoing.{Outgoing}
-use Rattle.peer_plan.specs.Drives.{row_done}
+use Rattle.leader_output.specs.declared.out.Outgoing.{Outgoing}
+use Rattle.peer_spec.specs.Drives.{row_done}
 use Rattle.peer_state.specs.Moves.{ends_leading, left, left_answers, turned, turned_answers, without_sync}
-use Rattle.peer_plan.specs.Syncs.{saved, and_sends, start_sync, followed_on}
-use Rattle.peer_plan.proofs.Syncs.{by_outcomeout}
+use Rattle.peer_spec.specs.Syncs.{saved, and_sends, start_sync, followed_on}
+use Rattle.peer_spec.proofs.Syncs.{by_outcomeout}
 use Rattle.peer_state.specs.declared.state.Mode.{Mode}
 use Rattle.peer_state.specs.declared.state.Phase.{Phase}
 use Rattle.peer_state.specs.declared.state.State.{State as PeerState}
-use Rattle.peer_fact.specs.declared.fact.Fact.{Fact}
+use Rattle.stored_formats.specs.declared.fact.Fact.{Fact}
 use Rattle.register_model.specs.declared.note.Note.{Note}
-use Rattle.running_sync.specs.Rows.{row_start}
+use Rattle.tree_sync.specs.Rows.{row_start}
 use Rattle.step_plans.specs.Calls.{ScanTree, Save}
 use Rattle.step_plans.specs.Plans.{Plan, Ask, Out, Rest, asked}
 use Rattle.step_plans.specs.Sends.{posted_to}
@@ -40,12 +40,12 @@ use Rattle.step_plans.specs.Tasks.{named}
 use Rattle.step_plans.specs.declared.error.PeerError.TheVariants.{StoreFault}
 use Rattle.step_plans.specs.declared.tasks.Task.{Task}
 use Rattle.step_plans.specs.Saved.{with_seal, bare}
-use Rattle.sync_rule.specs.Syncs.{outcome_of}
+use Rattle.tree_sync.specs.Syncs.{outcome_of}
 use Rattle.tree_node.specs.declared.body.Scan.{Scan}
-use Rattle.tree_refinement.proofs.Keeping.{grows}
-use Rattle.tree_refinement.proofs.Tops as records
-use Rattle.tree_refinement.specs.Tops.{tops_of}
-use Rattle.tree_refinement.specs.Trees.{AreAmong}
+use Rattle.peer_refinement.proofs.Keeping.{grows}
+use Rattle.peer_refinement.proofs.Tops as records
+use Rattle.peer_refinement.specs.Tops.{tops_of}
+use Rattle.peer_refinement.specs.Trees.{AreAmong}
 use Rattle.wire_frames.specs.declared.message.Message.{Message}
 use Rattle.phase_rows.specs.declared.phase.PhaseOut.{PhaseOut}
 use Rattle.phase_rows.specs.declared.phase.Then.{Then}

@@ -4,8 +4,8 @@ use Rattle.std.specs.Prelude.{All}
 use Rattle.std.proofs.Common.{◌≡◌, ℕ, Bool, false, if◌then◌else◌, List, [], ◌∷◌, ◌++◌, Option, None, Some, arith, refl, sym, subst}
 use Rattle.ens_base.specs.Lists.{◌∈◌}
 use Rattle.ens_base.specs.PeerSet.{holds}
-use Rattle.abstract_protocol.specs.Ledger.{Ledger, put}
-use Rattle.abstract_protocol.specs.Protocol.{State, state_after}
+use Rattle.protocol_laws.specs.Ledger.{Ledger, put}
+use Rattle.protocol_laws.specs.Protocol.{State, state_after}
 use Rattle.election_refinement.proofs.Changes.{is_second, wished_holds}
 use Rattle.election_refinement.proofs.Listed.{GoesListed, listed_phase_row, listed_received, listed_aged, listed_asked_change, listed_reminded, listed_leading, listed_ticks}
 use Rattle.election_refinement.proofs.Parts.{PartGoes, phase_row_turns, received_turns, aged_turns, asked_change_turns}
@@ -14,17 +14,17 @@ use Rattle.election_refinement.proofs.Ticks.{ticks_hold}
 use Rattle.election_refinement.proofs.Whole.{RowGoes, here, phase_row_goes, received_goes, aged_goes, asked_change_goes}
 use Rattle.election_refinement.specs.Listed.{IsListedLeadership, IsListedMessage, IsListedPhase}
 use Rattle.election_refinement.specs.Refinement.{MessageHolds, PeerHolds, PhaseHolds, IsLeading, SyncHolds, may_wait}
-use Rattle.tree_refinement.specs.HeldStores.{Held}
-use Rattle.leader_laws.specs.Roles.{RolesHold}
-use Rattle.leader_laws.specs.Tables.{Ghosts}
+use Rattle.peer_refinement.specs.WorldSpec.{Held}
+use Rattle.role_laws.specs.Roles.{RolesHold}
+use Rattle.role_laws.specs.Tables.{Ghosts}
 use Rattle.leader_refinement.specs.Seen.{owed_after}
-use Rattle.leader_words.specs.declared.out.Outgoing.{Outgoing}
-use Rattle.leading.specs.Ticks.{finishing_message}
-use Rattle.peer_plan.specs.Drives.{and_change, delivered, first, led_in, reminded, row_done, task_done, ticked}
+use Rattle.leader_output.specs.declared.out.Outgoing.{Outgoing}
+use Rattle.leader.specs.Ticks.{finishing_message}
+use Rattle.peer_spec.specs.Drives.{and_change, delivered, first, led_in, reminded, row_done, task_done, ticked}
 use Rattle.peer_state.specs.Leading.{begins, end_of, ticks, wished}
 use Rattle.peer_state.specs.Moves.{leading}
 use Rattle.peer_state.specs.Rows.{aged, asked_change, leads, phase_row, received}
-use Rattle.peer_plan.specs.Syncs.{and_sends}
+use Rattle.peer_spec.specs.Syncs.{and_sends}
 use Rattle.peer_state.specs.declared.event.Event.TheVariants as events
 use Rattle.peer_state.specs.declared.state.ChangeState.{ChangeState}
 use Rattle.peer_state.specs.declared.state.ChangeState.TheVariants.{Settled, Wanted, Finishing as Finishes}
@@ -32,14 +32,14 @@ use Rattle.peer_state.specs.declared.state.Leadership.{Leadership}
 use Rattle.peer_state.specs.declared.state.Phase.{Phase}
 use Rattle.peer_state.specs.declared.state.Phase.TheVariants as phases
 use Rattle.peer_state.specs.declared.state.State.{State as PeerState}
-use Rattle.peer_fact.specs.declared.fact.Fact.{Fact}
+use Rattle.stored_formats.specs.declared.fact.Fact.{Fact}
 use Rattle.register_model.specs.declared.note.Note.{Note}
 use Rattle.step_plans.specs.Plans.{Out, Rest}
 use Rattle.step_plans.specs.Tasks.{named}
 use Rattle.step_plans.specs.declared.tasks.Task.{Task}
 use Rattle.step_plans.specs.declared.tasks.Task.TheVariants as tasks
 use Rattle.step_plans.specs.Saved.{bare}
-use Rattle.sync_laws.specs.Facts.{Lines}
+use Rattle.role_laws.specs.Facts.{Lines}
 use Rattle.wire_frames.specs.declared.message.Message.{Message}
 use Rattle.wire_frames.specs.declared.message.Message.TheVariants as messages
 use Rattle.phase_rows.specs.declared.phase.PhaseOut.{PhaseOut}

@@ -2,24 +2,24 @@
 -- would have answered and sent is lost.
 use Rattle.std.proofs.Common.{◌≡◌, ℕ, false, List, [], ◌∷◌, ◌++◌, Some, refl, sym, ap, ◌∙◌, subst}
 use Rattle.ens_base.proofs.Lists.{in_right}
-use Rattle.abstract_protocol.specs.Ledger.{put}
-use Rattle.abstract_protocol.specs.Protocol.{State, Lose, happens}
+use Rattle.protocol_laws.specs.Ledger.{put}
+use Rattle.protocol_laws.specs.Protocol.{State, Lose, happens}
 use Rattle.election_refinement.specs.Listed.{IsListedFact}
 use Rattle.election_refinement.specs.Refinement.{IsSaved}
-use Rattle.entry_laws.proofs.Later.{stay_step}
-use Rattle.tree_refinement.specs.HeldStores.{Held}
-use Rattle.leader_laws.proofs.Roles.{run_roles}
-use Rattle.leader_laws.specs.Roles.{Role, Follows, RolesHold}
+use Rattle.protocol_laws.proofs.Later.{stay_step}
+use Rattle.peer_refinement.specs.WorldSpec.{Held}
+use Rattle.role_laws.proofs.Roles.{run_roles}
+use Rattle.role_laws.specs.Roles.{Role, Follows, RolesHold}
 use Rattle.leader_refinement.specs.Seen.{owed_after}
-use Rattle.leader_words.specs.declared.out.Outgoing.{Outgoing}
+use Rattle.leader_output.specs.declared.out.Outgoing.{Outgoing}
 use Rattle.peer_state.specs.declared.state.State.{State as PeerState}
 use Rattle.register_model.specs.declared.note.Note.{Note}
 use Rattle.step_plans.specs.Saved.{bare, kept_seal}
-use Rattle.seal_laws.specs.Kept.{IsSealed}
+use Rattle.role_laws.specs.Kept.{IsSealed}
 use Rattle.step_plans.specs.Plans.{Out}
-use Rattle.tree_refinement.specs.Tops.{tops_of}
-use Rattle.tree_refinement.specs.Trees.{AreAmong}
-use Rattle.version_laws.proofs.Maps.{put_here}
+use Rattle.peer_refinement.specs.Tops.{tops_of}
+use Rattle.peer_refinement.specs.Trees.{AreAmong}
+use Rattle.protocol_laws.proofs.Maps.{put_here}
 use Rattle.step_refinement.specs.Scenes.{Scene, Reached, state_before, now, Here, Rests}
 use Rattle.step_refinement.proofs.LostTrust.{lost}
 use Rattle.step_refinement.proofs.Stretches.{role_once, roles_same}

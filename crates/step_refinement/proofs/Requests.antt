@@ -8,41 +8,42 @@ use Rattle.ens_base.specs.Epochs.{same_version}
 use Rattle.ens_base.specs.View.{IsPeer}
 use Rattle.ens_base.specs.declared.epoch.Epoch.{Epoch}
 use Rattle.ens_base.specs.declared.epoch.Version.{Version}
-use Rattle.ens_object.specs.Objects.{IsObject}
-use Rattle.ens_object.specs.declared.object.Object.{Object}
-use Rattle.following.specs.Refusals.{is_served, refusal, unless_refused, tells_damage}
-use Rattle.following.specs.Requests.{row_20, gets, row_21, is_version_below, acknowledges, puts_over, puts, row_22}
-use Rattle.abstract_protocol.specs.Ledger.{Place}
-use Rattle.abstract_protocol.specs.Numbers.{epoch_number, IsEpoch}
-use Rattle.abstract_protocol.specs.Protocol.{State, Step, Write, Acknowledge, IsRun, state_after, happens}
+use Rattle.stored_formats.specs.Objects.{IsObject}
+use Rattle.stored_formats.specs.declared.object.Object.{Object}
+use Rattle.phase_rules.specs.Refusals.{is_served, refusal, unless_refused, tells_damage}
+use Rattle.phase_rules.specs.Requests.{row_20, gets, row_21, is_version_below, acknowledges, puts_over, puts, row_22}
+use Rattle.protocol_laws.specs.Ledger.{Place}
+use Rattle.protocol_laws.specs.Numbers.{epoch_number, IsEpoch}
+use Rattle.protocol_laws.specs.Protocol.{State, Step, Write, Acknowledge, IsRun, state_after, happens}
 use Rattle.election_refinement.proofs.Tests.{by_test}
 use Rattle.election_refinement.specs.Listed.{IsListedMessage}
 use Rattle.election_refinement.specs.Refinement.{SendHolds}
-use Rattle.tree_refinement.specs.HeldStores.{Held}
-use Rattle.leader_laws.specs.Messages.{GetSays, CheckSays, PutSays}
-use Rattle.leader_laws.specs.Roles.{Said, SaidHolds, Reads, Entry as EntryShown, Checks, Stands, Puts, Acks}
-use Rattle.leader_laws.specs.Tables.{Ghosts}
+use Rattle.peer_refinement.specs.WorldSpec.{Held}
+use Rattle.role_laws.specs.LeaderMessages.{GetSays, CheckSays, PutSays}
+use Rattle.role_laws.specs.Roles.{Said, SaidHolds, Reads, Entry as EntryShown, Checks, Stands, Puts, Acks}
+use Rattle.role_laws.specs.Tables.{Ghosts}
 use Rattle.leader_refinement.specs.Seen.{rank, content_of, entry_rank, shown as shown_object}
-use Rattle.leader_words.specs.declared.out.AnswerOut.{AnswerOut}
-use Rattle.leader_words.specs.declared.out.Outgoing.{Outgoing}
-use Rattle.peer_plan.specs.Drives.{row_done, shown, after_put, put_done, delivered}
+use Rattle.leader_output.specs.declared.out.AnswerOut.{AnswerOut}
+use Rattle.leader_output.specs.declared.out.Outgoing.{Outgoing}
+use Rattle.peer_spec.specs.Drives.{row_done, shown, after_put, put_done, delivered}
 use Rattle.peer_state.specs.Moves.{left, left_answers, timeouts, stopped_leading, without_candidacy, untrusted}
-use Rattle.peer_plan.specs.Owns.{looked, found}
-use Rattle.peer_plan.specs.Syncs.{and_sends}
+use Rattle.peer_spec.specs.Owns.{looked, found}
+use Rattle.peer_spec.specs.Syncs.{and_sends}
 use Rattle.peer_state.specs.declared.state.Phase.{Phase}
 use Rattle.peer_state.specs.declared.state.Phase.TheVariants as phases
 use Rattle.peer_state.specs.declared.state.State.{State as PeerState}
-use Rattle.peer_fact.specs.declared.fact.Fact.{Fact}
+use Rattle.stored_formats.specs.declared.fact.Fact.{Fact}
 use Rattle.phase_rows.specs.Orders.{is_below, is_same}
 use Rattle.phase_rows.specs.Peers.{alone}
 use Rattle.phase_rows.specs.Rows.{silent, refuses, refuses_below}
 use Rattle.register_model.specs.declared.note.Note.{Note}
-use Rattle.sync_refinement.proofs.RequestRefinement.{not_below, run_serves, run_checks, run_gets, run_puts}
-use Rattle.sync_refinement.specs.RequestRefinement.{Serves, FindSees, SeenSays, ReplySays, MayReply, Replies, HasVersion, TakesVersion, IsReplyToPut}
+use Rattle.peer_refinement.proofs.Numbers.{not_below}
+use Rattle.peer_refinement.proofs.Replying.{run_serves, run_checks, run_gets, run_puts}
+use Rattle.peer_refinement.specs.Replies.{Serves, FindSees, SeenSays, ReplySays, MayReply, Replies, HasVersion, TakesVersion, IsReplyToPut}
 use Rattle.step_plans.specs.Plans.{Out, Rest}
 use Rattle.step_plans.specs.Sends.{posted_to}
 use Rattle.step_plans.specs.declared.tasks.Task.{Task}
-use Rattle.tree_maps.specs.Entries.{lookup}
+use Rattle.synctree.specs.Entries.{lookup}
 use Rattle.tree_node.specs.declared.position.Position.{Position}
 use Rattle.wire_frames.specs.declared.message.Message.{Message}
 use Rattle.wire_frames.specs.declared.message.Message.TheVariants as messages

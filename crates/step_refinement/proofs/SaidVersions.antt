@@ -10,36 +10,38 @@ use Rattle.ens_base.specs.Epochs.{same_version}
 use Rattle.ens_base.specs.Lists.{same_bytes}
 use Rattle.ens_base.specs.declared.entry.Entry.{Entry}
 use Rattle.ens_base.specs.declared.epoch.Version.{Version}
-use Rattle.ens_object.specs.Objects.{object_spelling}
-use Rattle.ens_object.specs.declared.object.Object.{Object}
-use Rattle.kept_objects.specs.Kept.{is_named, matching}
-use Rattle.joint_views.proofs.Majorities.{meet_of_quorums, shares_itself}
-use Rattle.abstract_protocol.specs.Book.{version_of}
-use Rattle.abstract_protocol.specs.Ledger as ledger
-use Rattle.abstract_protocol.specs.Numbers.{epoch_number, IsVersion}
-use Rattle.abstract_protocol.specs.Objects.{epoch_of, IsGenuine, MayAcknowledge}
-use Rattle.abstract_protocol.specs.Protocol.{State, Step, Acknowledge, IsRun, state_after, happens, MayCome}
-use Rattle.election_laws.proofs.Epochs.{not_empty}
-use Rattle.election_laws.proofs.Sound.{Sound, run_sound}
-use Rattle.version_laws.proofs.Maps.{epoch_mono}
-use Rattle.version_laws.proofs.Trees.{run_versions}
-use Rattle.version_laws.specs.Versions.{VersionsAreSafe, IsSettled}
-use Rattle.entry_laws.proofs.Later.{stay_step}
+use Rattle.stored_formats.specs.Objects.{object_spelling}
+use Rattle.stored_formats.specs.declared.object.Object.{Object}
+use Rattle.object_commands.specs.Kept.{is_named, matching}
+use Rattle.quorums.proofs.Majorities.{meet_of_quorums, shares_itself}
+use Rattle.protocol_laws.specs.Book.{version_of}
+use Rattle.protocol_laws.specs.Ledger as ledger
+use Rattle.protocol_laws.specs.Numbers.{epoch_number, IsVersion}
+use Rattle.protocol_laws.specs.Objects.{epoch_of, IsGenuine, MayAcknowledge}
+use Rattle.protocol_laws.specs.Protocol.{State, Step, Acknowledge, IsRun, state_after, happens, MayCome}
+use Rattle.protocol_laws.proofs.Epochs.{not_empty}
+use Rattle.protocol_laws.proofs.Sound.{Sound, run_sound}
+use Rattle.protocol_laws.proofs.Maps.{epoch_mono}
+use Rattle.protocol_laws.proofs.Trees.{run_versions}
+use Rattle.protocol_laws.specs.Versions.{VersionsAreSafe, IsSettled}
+use Rattle.protocol_laws.proofs.Later.{stay_step}
 use Rattle.call_table.specs.Best.{better}
-use Rattle.leader_laws.specs.Messages.{GetReplySays}
-use Rattle.leader_laws.specs.Tables as theory
+use Rattle.role_laws.specs.LeaderMessages.{GetReplySays}
+use Rattle.role_laws.specs.Tables as theory
 use Rattle.leader_refinement.proofs.Numbers.{rank_back, rank_some}
 use Rattle.leader_refinement.specs.Follows.{Hash as Digests}
 use Rattle.leader_refinement.specs.Laws.{FoundSays}
 use Rattle.leader_refinement.specs.Seen.{rank, content_of, entry_rank, shown}
-use Rattle.peer_plan.specs.Owns.{kept, written}
-use Rattle.sync_refinement.proofs.RequestRefinement.{lookup_in, lookup_key, version_fits}
-use Rattle.sync_refinement.specs.RequestRefinement.{hash_of, VersionSays, EntrySays, MapSays}
+use Rattle.peer_spec.specs.Owns.{kept, written}
+use Rattle.peer_refinement.proofs.Lookups.{lookup_in, lookup_key}
+use Rattle.peer_refinement.proofs.Numbers.{version_fits}
+use Rattle.peer_refinement.specs.Naming.{hash_of, VersionSays, EntrySays}
+use Rattle.peer_refinement.specs.Replies.{MapSays}
 use Rattle.step_plans.specs.Saved.{bare, kept_seal, with_seal}
-use Rattle.peer_fact.specs.declared.fact.Fact.{Fact}
-use Rattle.peer_fact.specs.declared.saved.SavedFact.{SavedFact}
-use Rattle.sync_refinement.proofs.Staying.{version_stays}
-use Rattle.tree_maps.specs.Entries.{lookup}
+use Rattle.stored_formats.specs.declared.fact.Fact.{Fact}
+use Rattle.stored_formats.specs.declared.saved.SavedFact.{SavedFact}
+use Rattle.peer_refinement.proofs.SyncStaying.{version_stays}
+use Rattle.synctree.specs.Entries.{lookup}
 use Rattle.step_refinement.specs.Peers.{AcksSay}
 
 -- ## Settled versions

@@ -7,22 +7,22 @@ use Rattle.std.proofs.lemmas.List.Elements.{All-nil, All-cons, All-append, All-h
 use Rattle.ens_base.specs.Lists.{◌∈◌}
 use Rattle.ens_base.specs.PeerSet.{holds}
 use Rattle.ens_base.specs.View.{IsPeer}
-use Rattle.abstract_protocol.specs.Ledger.{put}
-use Rattle.abstract_protocol.specs.Protocol.{State}
+use Rattle.protocol_laws.specs.Ledger.{put}
+use Rattle.protocol_laws.specs.Protocol.{State}
 use Rattle.election_refinement.proofs.Tests.{by_test}
 use Rattle.election_refinement.specs.Listed.{IsListedMessage}
 use Rattle.election_refinement.specs.Refinement.{SendHolds}
-use Rattle.tree_refinement.specs.HeldStores.{Held}
-use Rattle.leader_laws.specs.Roles.{Role, Said, Sent, SaidHolds, RolesHold}
-use Rattle.leader_laws.specs.Tables.{Ghosts}
+use Rattle.peer_refinement.specs.WorldSpec.{Held}
+use Rattle.role_laws.specs.Roles.{Role, Said, Sent, SaidHolds, RolesHold}
+use Rattle.role_laws.specs.Tables.{Ghosts}
 use Rattle.leader_refinement.specs.Seen.{owed_after}
-use Rattle.leader_words.specs.Sends.{is_other}
-use Rattle.leader_words.specs.declared.out.Outgoing.{Outgoing}
-use Rattle.leading.specs.Ticks.{Finishing, tick_message, ticks_up_to}
-use Rattle.leading.specs.declared.leader.Leader.{Leader}
-use Rattle.peer_plan.specs.Syncs.{and_sends}
+use Rattle.leader_output.specs.Sends.{is_other}
+use Rattle.leader_output.specs.declared.out.Outgoing.{Outgoing}
+use Rattle.leader.specs.Ticks.{Finishing, tick_message, ticks_up_to}
+use Rattle.leader.specs.declared.leader.Leader.{Leader}
+use Rattle.peer_spec.specs.Syncs.{and_sends}
 use Rattle.peer_state.specs.declared.state.State.{State as PeerState}
-use Rattle.peer_fact.specs.declared.fact.Fact.{Fact}
+use Rattle.stored_formats.specs.declared.fact.Fact.{Fact}
 use Rattle.register_model.specs.declared.note.Note.{Note}
 use Rattle.step_plans.specs.Plans.{Out}
 use Rattle.step_plans.specs.Sends.{posted, posted_to}

@@ -5,27 +5,27 @@ use Rattle.std.proofs.lemmas.Option.{none-some}
 use Rattle.ens_base.proofs.Lists.{in_append}
 use Rattle.ens_base.specs.Lists.{◌∈◌}
 use Rattle.ens_base.specs.declared.entry.Entry.{Entry}
-use Rattle.abstract_protocol.specs.Objects.{Map, Objects, IsHonest}
-use Rattle.abstract_protocol.specs.Protocol.{State}
-use Rattle.entry_laws.specs.Stays.{EntriesStay}
-use Rattle.tree_refinement.specs.HeldStores.{answered, with_facts, Held, HeldStores, held_with}
-use Rattle.peer_fact.specs.declared.fact.Fact.{Fact}
-use Rattle.seal_laws.proofs.Moves.{unsealed_not}
-use Rattle.seal_laws.specs.Kept.{IsSealed, RootHolds, named_by}
+use Rattle.protocol_laws.specs.Objects.{Map, Objects, IsHonest}
+use Rattle.protocol_laws.specs.Protocol.{State}
+use Rattle.protocol_laws.specs.Stays.{EntriesStay}
+use Rattle.peer_refinement.specs.WorldSpec.{answered, with_facts, Held, HeldStores, held_with}
+use Rattle.stored_formats.specs.declared.fact.Fact.{Fact}
+use Rattle.role_laws.proofs.SealMoves.{unsealed_not}
+use Rattle.role_laws.specs.Kept.{IsSealed, RootHolds, named_by}
 use Rattle.step_plans.specs.Saved.{kept_seal, with_seal}
 use Rattle.step_plans.specs.Calls.{Call}
-use Rattle.sync_laws.specs.Facts.{Lines}
-use Rattle.sync_refinement.proofs.Staying.{stays, tree_says_stay}
-use Rattle.sync_refinement.specs.Syncs.{TreeSays, MayReturn}
-use Rattle.tree_refinement.proofs.Keeping as keeping
-use Rattle.tree_refinement.proofs.Recording.{last_top}
-use Rattle.tree_refinement.proofs.Tops as records
-use Rattle.tree_refinement.proofs.Tops.{named_behind, named_sees}
-use Rattle.tree_refinement.proofs.Rooted.{root_kept_so}
-use Rattle.tree_refinement.specs.Laws.{KeepsRoot}
-use Rattle.tree_refinement.specs.Rooted.{Sees}
-use Rattle.tree_refinement.specs.Tops.{IsNamed, NamesNext, IsWritten, tops_of}
-use Rattle.tree_refinement.specs.Trees.{AreAmong}
+use Rattle.role_laws.specs.Facts.{Lines}
+use Rattle.peer_refinement.proofs.SyncStaying.{stays, tree_says_stay}
+use Rattle.peer_refinement.specs.Syncs.{TreeSays, MayReturn}
+use Rattle.peer_refinement.proofs.Keeping as keeping
+use Rattle.peer_refinement.proofs.Recording.{last_top}
+use Rattle.peer_refinement.proofs.Tops as records
+use Rattle.peer_refinement.proofs.Tops.{named_behind, named_sees}
+use Rattle.peer_refinement.proofs.Rooted.{root_kept_so}
+use Rattle.peer_refinement.specs.TreeLaws.{KeepsRoot}
+use Rattle.peer_refinement.specs.Rooted.{Sees}
+use Rattle.peer_refinement.specs.Tops.{IsNamed, NamesNext, IsWritten, tops_of}
+use Rattle.peer_refinement.specs.Trees.{AreAmong}
 use Rattle.world_stores.specs.Nodes.{top_of}
 use Rattle.step_refinement.specs.Peers.{TopReturns, TopsReturn, LastMap, SealFits, TreeHolds}
 

@@ -2,25 +2,25 @@
 -- be refused; then a save leaves the old fact or the new one, and the others leave the fact as it was.
 use Rattle.std.proofs.Common.{◌≡◌, ◌⊎◌, inl, inr, ◌<◌, ◌^◌, ℕ, List, length, Option, None, Some, Result, Ok, Err, refl, ap}
 use Rattle.ens_base.specs.declared.entry.Entry.{Entry}
-use Rattle.ens_fields.specs.Entries.{IsEntry}
-use Rattle.ens_outside.specs.Maps.{with_value}
-use Rattle.ens_outside.specs.declared.memory.failing_call.Leaves.{Leaves}
-use Rattle.ens_outside.specs.declared.memory.failing_call.Leaves.TheVariants.{Old, New}
-use Rattle.tree_refinement.specs.HeldStores.{Answered, answered, entered, root_after, walked, with_facts, with_backend, facts_failed, objects_failed, Held, unless_failing, End, Came, Broke, Failed}
-use Rattle.peer_fact.specs.declared.saved.SavedFact.{SavedFact}
+use Rattle.fields.specs.Entries.{IsEntry}
+use Rattle.environment.specs.Maps.{with_value}
+use Rattle.environment.specs.declared.memory.failing_call.Leaves.{Leaves}
+use Rattle.environment.specs.declared.memory.failing_call.Leaves.TheVariants.{Old, New}
+use Rattle.peer_refinement.specs.WorldSpec.{Answered, answered, entered, root_after, walked, with_facts, with_backend, facts_failed, objects_failed, Held, unless_failing, End, Came, Broke, Failed}
+use Rattle.stored_formats.specs.declared.saved.SavedFact.{SavedFact}
 use Rattle.step_plans.specs.Calls.{Save, Find, Enter, Put}
 use Rattle.step_plans.specs.declared.error.PeerError.{PeerError}
 use Rattle.step_plans.specs.declared.error.PeerError.TheVariants.{StoreFault}
 use Rattle.step_plans.specs.declared.walked.Walked.{Walked}
 use Rattle.step_plans.specs.declared.walked.Walked.TheVariants.{Reached, Broken}
 use Rattle.synctree.specs.Trees.{insert_plan}
-use Rattle.tree_maps.specs.Entries.{lookup, put}
+use Rattle.synctree.specs.Entries.{lookup, put}
 use Rattle.tree_node.specs.declared.position.Position.{Position}
-use Rattle.tree_refinement.proofs.Rooted as rooted
-use Rattle.tree_refinement.specs.Laws.{IsReached}
-use Rattle.tree_refinement.specs.Rooted.{Sees, EndsEntered}
-use Rattle.tree_refinement.specs.Tops.{tops_of, NamesNext, IsWritten}
-use Rattle.tree_refinement.specs.Trees.{AreAmong, AreFree, form_in}
+use Rattle.peer_refinement.proofs.Rooted as rooted
+use Rattle.peer_refinement.specs.TreeLaws.{IsReached}
+use Rattle.peer_refinement.specs.Rooted.{Sees, EndsEntered}
+use Rattle.peer_refinement.specs.Tops.{tops_of, NamesNext, IsWritten}
+use Rattle.peer_refinement.specs.Trees.{AreAmong, AreFree, form_in}
 use Rattle.world_stores.specs.Objects.{Objects}
 use Rattle.world_stores.specs.declared.fact.HeldFact.{HeldFact}
 

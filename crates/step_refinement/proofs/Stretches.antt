@@ -1,15 +1,15 @@
 -- What stays over several stretches of a run: roles that are replaced, answers that are owed, entries, and
 -- what the steps of a peer leave to the others.
 use Rattle.std.proofs.Common.{◌≡◌, ℕ, List, [], ◌∷◌, ◌++◌, refl, subst, ◌∙◌}
-use Rattle.abstract_protocol.specs.Ledger.{put}
-use Rattle.abstract_protocol.specs.Protocol.{State}
+use Rattle.protocol_laws.specs.Ledger.{put}
+use Rattle.protocol_laws.specs.Protocol.{State}
 use Rattle.election_refinement.proofs.Keeps.{keeps_none, keeps_both}
-use Rattle.entry_laws.proofs.Later.{stay_same, stay_then as stays_then}
-use Rattle.leader_laws.specs.Roles.{Role, Sent, RoleHolds, RolesHold}
-use Rattle.leader_laws.specs.Tables.{Ghosts, Owed}
+use Rattle.protocol_laws.proofs.Later.{stay_same, stay_then as stays_then}
+use Rattle.role_laws.specs.Roles.{Role, Sent, RoleHolds, RolesHold}
+use Rattle.role_laws.specs.Tables.{Ghosts, Owed}
 use Rattle.leader_refinement.specs.Seen.{owed_after}
-use Rattle.leader_words.specs.declared.out.AnswerOut.{AnswerOut}
-use Rattle.version_laws.proofs.Maps.{put_here, put_other, put_then}
+use Rattle.leader_output.specs.declared.out.AnswerOut.{AnswerOut}
+use Rattle.protocol_laws.proofs.Maps.{put_here, put_other, put_then}
 use Rattle.step_refinement.specs.Scenes.{Elsewhere}
 use Rattle.ens_base.specs.Lists.{◌∈◌}
 

@@ -2,8 +2,8 @@
 use Rattle.std.proofs.Common.{◌≡◌, ◌⊎◌, inl, inr, ℕ, Bool, true, false, List, [], ◌++◌, Option, None, Some, Result, Ok, Err, refl, ap, sym, subst, ◌∙◌}
 use Rattle.ens_base.specs.declared.entry.Entry.{Entry}
 use Rattle.ens_base.specs.declared.epoch.Epoch.{Epoch}
-use Rattle.abstract_protocol.specs.Numbers.{epoch_number}
-use Rattle.abstract_protocol.specs.Protocol.{State, state_after}
+use Rattle.protocol_laws.specs.Numbers.{epoch_number}
+use Rattle.protocol_laws.specs.Protocol.{State, state_after}
 use Rattle.election_refinement.proofs.Calls.{BeginsNothing}
 use Rattle.election_refinement.proofs.Listed.{GoesListed, listed_left, listed_untrusted}
 use Rattle.election_refinement.proofs.Requests.{IsHarmless, harmless_goes, row_23_harmless}
@@ -14,22 +14,22 @@ use Rattle.election_refinement.specs.Listed.{IsListedFact, IsListedPeer, IsListe
 use Rattle.election_refinement.specs.Refinement as ledgers
 use Rattle.election_refinement.specs.Refinement.{IsSyncing, MaySync, may_wait}
 use Rattle.tree_node.specs.declared.version.TreeVersion.{TreeVersion}
-use Rattle.exchange.specs.declared.question.Question.{Question}
-use Rattle.following.specs.Requests.{row_23, gives, gives_read}
-use Rattle.tree_refinement.specs.HeldStores.{answered, Held}
-use Rattle.peer_plan.specs.Drives.{row_done, got_ask}
+use Rattle.tree_exchange.specs.declared.question.Question.{Question}
+use Rattle.phase_rules.specs.Requests.{row_23, gives, gives_read}
+use Rattle.peer_refinement.specs.WorldSpec.{answered, Held}
+use Rattle.peer_spec.specs.Drives.{row_done, got_ask}
 use Rattle.peer_state.specs.Moves.{followed, left, turned}
-use Rattle.peer_plan.specs.Syncs.{body_of, tree_give, needs_node, own_node, reached, shown_node, take_give}
+use Rattle.peer_spec.specs.Syncs.{body_of, tree_give, needs_node, own_node, reached, shown_node, take_give}
 use Rattle.peer_state.specs.declared.state.State.{State as PeerState}
-use Rattle.peer_fact.specs.declared.fact.Fact.{Fact}
+use Rattle.stored_formats.specs.declared.fact.Fact.{Fact}
 use Rattle.phase_rows.specs.Orders.{is_below, is_same}
 use Rattle.register_model.specs.declared.note.Note.{Note}
-use Rattle.running_sync.proofs.Keeping.{fact_stays, scan_stays}
-use Rattle.running_sync.proofs.Messages.{take_go, take_ask}
-use Rattle.running_sync.proofs.Others.{taken_are}
-use Rattle.running_sync.specs.Rows.{row_take}
-use Rattle.running_sync.specs.Running.{Running}
-use Rattle.running_sync.specs.declared.asking.Give.{Give}
+use Rattle.tree_sync.proofs.Keeping.{fact_stays, scan_stays}
+use Rattle.tree_sync.proofs.Messages.{take_go, take_ask}
+use Rattle.tree_sync.proofs.Others.{taken_are}
+use Rattle.tree_sync.specs.Rows.{row_take}
+use Rattle.tree_sync.specs.Running.{Running}
+use Rattle.tree_sync.specs.declared.asking.Give.{Give}
 use Rattle.step_plans.specs.Calls.{ReadNode}
 use Rattle.step_plans.specs.Plans.{Out, Rest, asked}
 use Rattle.step_plans.specs.declared.error.PeerError.{PeerError}
@@ -37,19 +37,19 @@ use Rattle.step_plans.specs.declared.tasks.Task.{Task}
 use Rattle.step_plans.specs.declared.walked.Walked.{Walked}
 use Rattle.step_plans.specs.declared.walked.Walked.TheVariants.{Reached as Came, Broken}
 use Rattle.step_plans.specs.Saved.{bare}
-use Rattle.sync_refinement.specs.Laws.{HasWalked}
-use Rattle.sync_refinement.specs.Syncs.{AreHashed, SyncSays, GiveFits}
-use Rattle.tree_maps.specs.Paths.{node_of}
-use Rattle.tree_maps.specs.Sixteen.{form_of}
+use Rattle.peer_refinement.specs.SyncLaws.{HasWalked}
+use Rattle.peer_refinement.specs.Syncs.{AreHashed, SyncSays, GiveFits}
+use Rattle.synctree.specs.Paths.{node_of}
+use Rattle.synctree.specs.Sixteen.{form_of}
 use Rattle.tree_node.specs.Positions.{IsPosition}
 use Rattle.tree_node.specs.declared.body.TreeBody.{TreeBody}
 use Rattle.tree_node.specs.declared.body.TreeBody.TheVariants as bodies
 use Rattle.tree_node.specs.declared.body.Scan.{Scan}
 use Rattle.tree_node.specs.declared.position.Position.{Position}
-use Rattle.tree_refinement.proofs.Keeping as keeping
-use Rattle.tree_refinement.proofs.Rooted as rooted
-use Rattle.tree_refinement.specs.Rooted.{IsShown}
-use Rattle.tree_refinement.specs.Trees.{AreAmong}
+use Rattle.peer_refinement.proofs.Keeping as keeping
+use Rattle.peer_refinement.proofs.Rooted as rooted
+use Rattle.peer_refinement.specs.Rooted.{IsShown}
+use Rattle.peer_refinement.specs.Trees.{AreAmong}
 use Rattle.wire_frames.specs.declared.message.Message.{Message}
 use Rattle.phase_rows.specs.declared.phase.PhaseOut.{PhaseOut}
 use Rattle.phase_rows.specs.declared.phase.Then.{Then}

@@ -10,13 +10,13 @@ use Rattle.std.proofs.lemmas.Option.{none-some}
 use Rattle.ens_base.specs.Views.{last_view}
 use Rattle.ens_base.specs.declared.entry.Entry.{Entry}
 use Rattle.ens_base.specs.declared.epoch.Epoch.{Epoch}
-use Rattle.abstract_protocol.specs.Ledger.{Ledger, Place, put}
-use Rattle.abstract_protocol.specs.Numbers.{epoch_number}
-use Rattle.abstract_protocol.specs.Objects.{Map, IsHonest, MayEndSync}
-use Rattle.abstract_protocol.specs.Protocol.{State, Step, Install, EndSync, MayCome, happens}
-use Rattle.election.specs.declared.election.Election.TheVariants.{Preparing, Starting}
-use Rattle.election_laws.proofs.Epochs.{not_empty, run_elections}
-use Rattle.election_laws.proofs.Sound.{run_sound}
+use Rattle.protocol_laws.specs.Ledger.{Ledger, Place, put}
+use Rattle.protocol_laws.specs.Numbers.{epoch_number}
+use Rattle.protocol_laws.specs.Objects.{Map, IsHonest, MayEndSync}
+use Rattle.protocol_laws.specs.Protocol.{State, Step, Install, EndSync, MayCome, happens}
+use Rattle.phase_rules.specs.declared.election.Election.TheVariants.{Preparing, Starting}
+use Rattle.protocol_laws.proofs.Epochs.{not_empty, run_elections}
+use Rattle.protocol_laws.proofs.Sound.{run_sound}
 use Rattle.election_refinement.proofs.Keeps.{keeps_none, join_keeps, sends_keep}
 use Rattle.election_refinement.proofs.Listed.{listed_synced, listed_counts_itself, listed_sync}
 use Rattle.election_refinement.proofs.Reaching.{Course, join_reaches}
@@ -26,30 +26,30 @@ use Rattle.election_refinement.proofs.Tests.{by_test}
 use Rattle.election_refinement.specs.Listed.{IsListedFact, IsListedMessage, IsListedPeer, IsListedSync}
 use Rattle.election_refinement.specs.Refinement as ledgers
 use Rattle.election_refinement.specs.Refinement.{PhaseHolds, IsFirst, IsSaved, IsOrderly, IsSyncing, MaySync, change_at, may_wait}
-use Rattle.entry_laws.proofs.Later.{stay_step}
-use Rattle.entry_laws.specs.Stays.{EntriesStay}
-use Rattle.tree_refinement.specs.HeldStores.{Answered, answered, with_facts, Held}
-use Rattle.leader_laws.proofs.Roles.{run_roles}
-use Rattle.leader_laws.specs.Roles.{RolesHold}
+use Rattle.protocol_laws.proofs.Later.{stay_step}
+use Rattle.protocol_laws.specs.Stays.{EntriesStay}
+use Rattle.peer_refinement.specs.WorldSpec.{Answered, answered, with_facts, Held}
+use Rattle.role_laws.proofs.Roles.{run_roles}
+use Rattle.role_laws.specs.Roles.{RolesHold}
 use Rattle.leader_refinement.specs.Seen.{rank, owed_after}
-use Rattle.leader_words.specs.declared.out.Outgoing.{Outgoing}
+use Rattle.leader_output.specs.declared.out.Outgoing.{Outgoing}
 use Rattle.peer_state.specs.Moves.{electing, keeps_seal, without_sync}
-use Rattle.peer_plan.specs.Syncs.{sealed_if, and_sends, with_sync, installed, accepted, accepted_in, end_sync, by_outcome, go_on, start_sync, resume_sync}
+use Rattle.peer_spec.specs.Syncs.{sealed_if, and_sends, with_sync, installed, accepted, accepted_in, end_sync, by_outcome, go_on, start_sync, resume_sync}
 use Rattle.peer_state.specs.declared.state.Phase.{Phase}
 use Rattle.peer_state.specs.declared.state.Phase.TheVariants as phases
 use Rattle.peer_state.specs.declared.state.State.{State as PeerState}
-use Rattle.peer_fact.specs.declared.fact.Change.TheVariants as changes
-use Rattle.peer_fact.specs.declared.fact.Fact.{Fact}
+use Rattle.stored_formats.specs.declared.fact.Change.TheVariants as changes
+use Rattle.stored_formats.specs.declared.fact.Fact.{Fact}
 use Rattle.phase_rows.specs.Peers.{joined}
 use Rattle.phase_rows.specs.declared.rules.PhaseRule.TheVariants as phase_rules
 use Rattle.register_model.specs.declared.call.Call.{Call as BookCall}
 use Rattle.register_model.specs.declared.note.Note.{Note}
-use Rattle.running_sync.proofs.Messages.{start_go, resume_go, start_ask, resume_ask}
-use Rattle.running_sync.proofs.Others.{asks_are, resumed_are}
-use Rattle.running_sync.specs.Rows.{row_start, row_resume}
-use Rattle.running_sync.specs.Running.{Running}
-use Rattle.running_sync.specs.Sends.{MayGo, AsksAt, IsQuestion}
-use Rattle.seal_laws.specs.Kept.{IsSealed, RootHolds}
+use Rattle.tree_sync.proofs.Messages.{start_go, resume_go, start_ask, resume_ask}
+use Rattle.tree_sync.proofs.Others.{asks_are, resumed_are}
+use Rattle.tree_sync.specs.Rows.{row_start, row_resume}
+use Rattle.tree_sync.specs.Running.{Running}
+use Rattle.tree_sync.specs.Sends.{MayGo, AsksAt, IsQuestion}
+use Rattle.role_laws.specs.Kept.{IsSealed, RootHolds}
 use Rattle.step_plans.specs.Saved.{bare, kept_seal, with_seal}
 use Rattle.step_plans.specs.Calls.{Call, ScanTree, Install as InstallTree, Save, Root}
 use Rattle.step_plans.specs.Plans.{Ask, Out, Rest, asked}
@@ -57,37 +57,37 @@ use Rattle.step_plans.specs.declared.error.PeerError.{PeerError}
 use Rattle.step_plans.specs.declared.error.PeerError.TheVariants.{StoreFault}
 use Rattle.step_plans.specs.declared.tasks.Task.{Task}
 use Rattle.step_plans.specs.declared.tasks.Task.TheVariants as tasks
-use Rattle.sync_laws.proofs.Gives.{may_end}
-use Rattle.sync_laws.specs.Facts as facts
-use Rattle.sync_laws.specs.Peers as Theory
-use Rattle.sync_refinement.proofs.Assembled.{laws as run_syncs}
-use Rattle.sync_refinement.proofs.Firsts.{seen_first}
-use Rattle.sync_refinement.proofs.Staying.{version_stays, entries_stay}
-use Rattle.sync_refinement.specs.Laws.{AreFewKeys, FirmAreKept, SyncEnds, SyncLaws}
-use Rattle.sync_refinement.specs.Seen.{ranks, seen_fact, seen_tree}
-use Rattle.sync_refinement.specs.Syncs.{TreeSays, MayReturn, AreHashed}
-use Rattle.sync_rule.specs.Syncs.{outcome_of, needs_build, is_clean, is_none, same_entries}
-use Rattle.sync_rule.specs.declared.sync.Outcome.{Outcome}
-use Rattle.sync_rule.specs.declared.sync.Outcome.TheVariants.{Pending, Trusted}
-use Rattle.tree_maps.specs.Sixteen.{form_of}
+use Rattle.role_laws.proofs.Gives.{may_end}
+use Rattle.role_laws.specs.Facts as facts
+use Rattle.role_laws.specs.Peers as Theory
+use Rattle.peer_refinement.proofs.Assembled.{laws as run_syncs}
+use Rattle.peer_refinement.proofs.Firsts.{seen_first}
+use Rattle.peer_refinement.proofs.SyncStaying.{version_stays, entries_stay}
+use Rattle.peer_refinement.specs.SyncLaws.{AreFewKeys, FirmAreKept, SyncEnds, SyncLaws}
+use Rattle.peer_refinement.specs.Seen.{ranks, seen_fact, seen_tree}
+use Rattle.peer_refinement.specs.Syncs.{TreeSays, MayReturn, AreHashed}
+use Rattle.tree_sync.specs.Syncs.{outcome_of, needs_build, is_clean, is_none, same_entries}
+use Rattle.tree_sync.specs.declared.sync.Outcome.{Outcome}
+use Rattle.tree_sync.specs.declared.sync.Outcome.TheVariants.{Pending, Trusted}
+use Rattle.synctree.specs.Sixteen.{form_of}
 use Rattle.tree_node.specs.Positions.{IsPosition}
 use Rattle.tree_node.specs.declared.body.Scan.{Scan}
 use Rattle.tree_node.specs.declared.position.Position.{Position}
 use Rattle.tree_node.specs.declared.version.TreeVersion.{TreeVersion}
 use Rattle.tree_node.specs.declared.version.TreeVersion.TheVariants.{Two}
-use Rattle.tree_verify.specs.Scans.{lost}
-use Rattle.tree_refinement.proofs.Damage.{scan_positions}
-use Rattle.tree_refinement.proofs.Keeping as keeping
-use Rattle.tree_refinement.proofs.Rooted as rooted
-use Rattle.tree_refinement.proofs.Rooted.{version_kept_so, root_kept_so}
-use Rattle.tree_refinement.proofs.Tops.{installs as installs_tops, named_behind}
-use Rattle.tree_refinement.specs.Laws.{KeepsRoot}
-use Rattle.tree_refinement.specs.Rooted.{LosesAll, IsSeen}
-use Rattle.tree_refinement.specs.Tops.{HasBuilt, IsNamed, IsTorn, IsWritten, NamesNext, tops_of}
-use Rattle.tree_refinement.specs.Trees.{AreAmong, Shows}
-use Rattle.version_laws.proofs.Maps.{put_here, put_other}
-use Rattle.version_laws.proofs.Trees.{run_versions}
-use Rattle.version_laws.proofs.Views.{last_view_in}
+use Rattle.tree_repair.specs.Scans.{lost}
+use Rattle.peer_refinement.proofs.Damage.{scan_positions}
+use Rattle.peer_refinement.proofs.Keeping as keeping
+use Rattle.peer_refinement.proofs.Rooted as rooted
+use Rattle.peer_refinement.proofs.Rooted.{version_kept_so, root_kept_so}
+use Rattle.peer_refinement.proofs.Tops.{installs as installs_tops, named_behind}
+use Rattle.peer_refinement.specs.TreeLaws.{KeepsRoot}
+use Rattle.peer_refinement.specs.Rooted.{LosesAll, IsSeen}
+use Rattle.peer_refinement.specs.Tops.{HasBuilt, IsNamed, IsTorn, IsWritten, NamesNext, tops_of}
+use Rattle.peer_refinement.specs.Trees.{AreAmong, Shows}
+use Rattle.protocol_laws.proofs.Maps.{put_here, put_other}
+use Rattle.protocol_laws.proofs.Trees.{run_versions}
+use Rattle.protocol_laws.proofs.Views.{last_view_in}
 use Rattle.wire_frames.specs.declared.message.Message.TheVariants as messages
 use Rattle.wire_frames.specs.declared.message.Message.{Message}
 use Rattle.world_stores.specs.Nodes.{top_of}

@@ -1,10 +1,10 @@
 -- The tasks of a step, one after another: each ends in agreement, and no task is left at the end.
 use Rattle.std.proofs.Common.{◌≡◌, inl, inr, ℕ, zero, suc, List, [], ◌∷◌, ◌++◌, refl, sym, subst}
-use Rattle.tree_refinement.specs.HeldStores.{Held}
-use Rattle.leading.specs.Rules.{lead_row}
-use Rattle.peer_plan.specs.Drives.{lead, task_done, driven}
+use Rattle.peer_refinement.specs.WorldSpec.{Held}
+use Rattle.leader.specs.Rules.{lead_row}
+use Rattle.peer_spec.specs.Drives.{lead, task_done, driven}
 use Rattle.peer_state.specs.Moves.{leading}
-use Rattle.peer_plan.specs.Turns.{StepsAlone}
+use Rattle.peer_spec.specs.Turns.{StepsAlone}
 use Rattle.peer_state.specs.declared.state.Phase.{Phase}
 use Rattle.peer_state.specs.declared.state.Phase.TheVariants as phases
 use Rattle.peer_state.specs.declared.state.State.{State as PeerState}

@@ -9,58 +9,62 @@ use Rattle.md5.specs.Md5.{md5}
 use Rattle.ens_base.specs.Lists.{◌∈◌}
 use Rattle.ens_base.specs.declared.entry.Entry.{Entry}
 use Rattle.ens_base.specs.declared.epoch.Epoch.{Epoch}
-use Rattle.ens_object.specs.Objects.{IsObject, object_spelling}
-use Rattle.ens_object.specs.declared.object.Object.{Object}
-use Rattle.ens_outside.specs.Maps.{value_at}
-use Rattle.kept_objects.specs.Kept.{object_in, matching, entry_of}
-use Rattle.abstract_protocol.proofs.Ranks.{version_within}
-use Rattle.abstract_protocol.specs.Book.{version_of}
-use Rattle.abstract_protocol.specs.Ledger as ledger
-use Rattle.abstract_protocol.specs.Numbers.{epoch_number}
-use Rattle.abstract_protocol.specs.Objects.{set_entry, Map, IsHonest}
-use Rattle.abstract_protocol.specs.Protocol.{State, Step, Write, Acknowledge, IsRun, state_after, happens, MayCome}
-use Rattle.version_laws.proofs.Maps.{put_other, put_here, set_same}
-use Rattle.entry_laws.proofs.Later.{stay_step, stay_then as stays_then}
-use Rattle.entry_laws.specs.Stays.{EntriesStay}
+use Rattle.stored_formats.specs.Objects.{IsObject, object_spelling}
+use Rattle.stored_formats.specs.declared.object.Object.{Object}
+use Rattle.environment.specs.Maps.{value_at}
+use Rattle.object_commands.specs.Kept.{object_in, matching, entry_of}
+use Rattle.protocol_laws.proofs.Ranks.{version_within}
+use Rattle.protocol_laws.specs.Book.{version_of}
+use Rattle.protocol_laws.specs.Ledger as ledger
+use Rattle.protocol_laws.specs.Numbers.{epoch_number}
+use Rattle.protocol_laws.specs.Objects.{set_entry, Map, IsHonest}
+use Rattle.protocol_laws.specs.Protocol.{State, Step, Write, Acknowledge, IsRun, state_after, happens, MayCome}
+use Rattle.protocol_laws.proofs.Maps.{put_other, put_here, set_same}
+use Rattle.protocol_laws.proofs.Later.{stay_step, stay_then as stays_then}
+use Rattle.protocol_laws.specs.Stays.{EntriesStay}
 use Rattle.election_refinement.specs.Refinement.{may_wait, SyncHolds}
 use Rattle.call_table.specs.Best.{better}
-use Rattle.tree_refinement.specs.HeldStores.{answered, Answered, with_facts, Held, and_hashed}
-use Rattle.leader_laws.proofs.Roles.{run_roles}
-use Rattle.leader_laws.specs.Leaders.{IsObjectOf}
-use Rattle.leader_laws.specs.Messages.{PutSays, GetReplySays}
-use Rattle.leader_laws.specs.Roles.{RolesHold}
+use Rattle.peer_refinement.specs.WorldSpec.{answered, Answered, with_facts, Held, and_hashed}
+use Rattle.role_laws.proofs.Roles.{run_roles}
+use Rattle.role_laws.specs.Leaders.{IsObjectOf}
+use Rattle.role_laws.specs.LeaderMessages.{PutSays, GetReplySays}
+use Rattle.role_laws.specs.Roles.{RolesHold}
 use Rattle.leader_refinement.proofs.Numbers.{rank_some}
 use Rattle.leader_refinement.specs.Follows.{Hash as Digests}
 use Rattle.leader_refinement.specs.Laws.{BackendSays, FoundSays, LookSays, LookNames}
 use Rattle.leader_refinement.specs.Seen.{rank, content_of, entry_rank, shown, owed_after}
-use Rattle.peer_plan.specs.Syncs.{sealed}
-use Rattle.peer_plan.specs.Owns.{digested, read, kept, fetched, held, looked_at, looked, found_at, found, stored as stored_bytes, resealed, entered, written, confirmed}
+use Rattle.peer_spec.specs.Syncs.{sealed}
+use Rattle.peer_spec.specs.Owns.{digested, read, kept, fetched, held, looked_at, looked, found_at, found, stored as stored_bytes, resealed, entered, written, confirmed}
 use Rattle.peer_state.specs.declared.state.State.{State as PeerState}
 use Rattle.register_model.specs.declared.note.Note.{Note}
 use Rattle.register_model.specs.declared.call.Call.{Call as BookCall}
-use Rattle.sync_refinement.proofs.RequestRefinement.{looks_so, in_put, version_decoded, put_entry, write_shows}
-use Rattle.sync_refinement.specs.RequestRefinement.{hash_of, version_string, object_of_version, VersionSays, EntryMaySay, MayBeDecoded, MapSays, LookSees, IsShown, found_in}
-use Rattle.running_sync.specs.Running.{Running}
+use Rattle.peer_refinement.proofs.Looks.{looks_so}
+use Rattle.peer_refinement.proofs.Lookups.{in_put}
+use Rattle.peer_refinement.proofs.Names.{version_decoded}
+use Rattle.peer_refinement.proofs.RequestStaying.{put_entry, write_shows}
+use Rattle.peer_refinement.specs.Naming.{hash_of, version_string, object_of_version, VersionSays, EntryMaySay, MayBeDecoded}
+use Rattle.peer_refinement.specs.Replies.{MapSays, LookSees, IsShown, found_in}
+use Rattle.tree_sync.specs.Running.{Running}
 use Rattle.step_plans.specs.Saved.{bare, kept_seal, with_seal}
-use Rattle.seal_laws.specs.Kept.{IsSealed}
+use Rattle.role_laws.specs.Kept.{IsSealed}
 use Rattle.step_plans.specs.Calls.{Call, Find, Enter, Fetch, Put, Hash, Root, Save}
 use Rattle.step_plans.specs.Plans.{Plan, Ask, Out, Rest, asked}
 use Rattle.step_plans.specs.declared.error.PeerError.TheVariants.{StoreFault}
 use Rattle.step_plans.specs.declared.walked.Walked.TheVariants.{Reached as Came, Broken}
-use Rattle.sync_refinement.proofs.Ends.{distinct_keys}
-use Rattle.sync_refinement.proofs.Gives.{trusted_maps, may_return}
-use Rattle.sync_refinement.proofs.Staying.{version_stays}
-use Rattle.sync_refinement.specs.Syncs.{TreeSays, MayReturn}
-use Rattle.tree_maps.proofs.Names.{md5_run}
-use Rattle.tree_maps.proofs.Parts.{ascends-put}
-use Rattle.tree_maps.specs.Entries.{lookup, put, IsMap}
+use Rattle.peer_refinement.proofs.Ends.{distinct_keys}
+use Rattle.peer_refinement.proofs.Gives.{trusted_maps, may_return}
+use Rattle.peer_refinement.proofs.SyncStaying.{version_stays}
+use Rattle.peer_refinement.specs.Syncs.{TreeSays, MayReturn}
+use Rattle.synctree.proofs.Names.{md5_run}
+use Rattle.synctree.proofs.Parts.{ascends-put}
+use Rattle.synctree.specs.Entries.{lookup, put, IsMap}
 use Rattle.tree_node.specs.declared.position.Position.{Position}
-use Rattle.tree_refinement.proofs.Keeping.{grows, hashes, spares, versions}
-use Rattle.tree_refinement.proofs.Rooted.{version_kept_so, root_kept_so}
-use Rattle.tree_refinement.proofs.Tops as records
-use Rattle.tree_refinement.specs.Laws.{KeepsRoot}
-use Rattle.tree_refinement.specs.Tops.{tops_of, NamesNext, IsWritten}
-use Rattle.tree_refinement.specs.Trees.{AreAmong}
+use Rattle.peer_refinement.proofs.Keeping.{grows, hashes, spares, versions}
+use Rattle.peer_refinement.proofs.Rooted.{version_kept_so, root_kept_so}
+use Rattle.peer_refinement.proofs.Tops as records
+use Rattle.peer_refinement.specs.TreeLaws.{KeepsRoot}
+use Rattle.peer_refinement.specs.Tops.{tops_of, NamesNext, IsWritten}
+use Rattle.peer_refinement.specs.Trees.{AreAmong}
 use Rattle.phase_rows.specs.declared.phase.Seen.{Seen}
 use Rattle.phase_rows.specs.declared.phase.Seen.TheVariants as seens
 use Rattle.world_stores.specs.declared.fact.HeldFact.{HeldFact}

@@ -2,18 +2,18 @@
 use Rattle.std.proofs.Common.{◌≡◌, ◌<◌, ◌≤◌, ◌^◌, inl, ℕ, false, suc, List, [], ◌∷◌, None, length, arith, refl, ap}
 use Rattle.phase_rows.specs.declared.rules.PhaseRule.TheVariants as phase_rules
 use Rattle.ens_base.specs.Lists.{◌∈◌}
-use Rattle.abstract_protocol.specs.Book.{MayCall}
-use Rattle.abstract_protocol.specs.Protocol.{Step, Ask, IsRun, state_after}
+use Rattle.protocol_laws.specs.Book.{MayCall}
+use Rattle.protocol_laws.specs.Protocol.{Step, Ask, IsRun, state_after}
 use Rattle.call_table.specs.declared.waiting.Waiting.{Waiting}
-use Rattle.tree_refinement.specs.HeldStores.{Held, run}
+use Rattle.peer_refinement.specs.WorldSpec.{Held, run}
 use Rattle.leader_refinement.proofs.Leaving.{run_leaves}
 use Rattle.leader_refinement.specs.Follows.{IsAtWork, Leaves}
 use Rattle.leader_refinement.specs.Seen.{ids_of, owed_after}
-use Rattle.peer_plan.proofs.Fuel.{responded_left, concluded_left}
-use Rattle.peer_plan.specs.Drives.{first, driven, most_turns, concluded, delivered, ticked, step_of}
+use Rattle.peer_spec.proofs.Fuel.{responded_left, concluded_left}
+use Rattle.peer_spec.specs.Drives.{first, driven, most_turns, concluded, delivered, ticked, step_of}
 use Rattle.peer_state.specs.Moves.{leading}
 use Rattle.peer_state.specs.Rows.{leads}
-use Rattle.peer_plan.specs.Turns.{HasFewCalls}
+use Rattle.peer_spec.specs.Turns.{HasFewCalls}
 use Rattle.peer_state.specs.declared.event.CallIn.{CallIn}
 use Rattle.peer_state.specs.declared.event.Event.{Event}
 use Rattle.peer_state.specs.declared.event.Event.TheVariants as events
@@ -26,7 +26,7 @@ use Rattle.step_plans.specs.Calls.{OpenTree}
 use Rattle.step_plans.specs.Plans.{Plan, Done, Ask as Asks, Out, nothing, Rest}
 use Rattle.step_plans.specs.declared.tasks.Task.{Task}
 use Rattle.step_plans.specs.declared.tasks.Task.TheVariants as tasks
-use Rattle.tree_refinement.specs.Trees.{AreAmong}
+use Rattle.peer_refinement.specs.Trees.{AreAmong}
 use Rattle.wire_frames.specs.declared.message.Message.{Message}
 use Rattle.wire_frames.specs.declared.message.Message.TheVariants as messages
 use Rattle.step_refinement.proofs.LeaderCalls.{put_heard, check_heard, got_heard, called_good}

@@ -2,7 +2,7 @@
 use Rattle.std.specs.Prelude.{◌≡◌, ◌≤◌, ℕ, true, List, length}
 use Rattle.ens_base.specs.Lists.{◌∈◌, AreDistinct}
 use Rattle.register_model.specs.declared.call.Call.{Call}
-use Rattle.abstract_protocol.specs.Protocol.{State}
+use Rattle.protocol_laws.specs.Protocol.{State}
 
 -- some call is on the key
 abbrev pub IsCalled : State → List ℕ → Type 0

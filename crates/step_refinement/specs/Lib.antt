@@ -5,4 +5,4 @@ pub mod Scenes
 pub mod Steps
 pub mod ElectionRefinement
 pub mod LeaderRefinement
-pub mod SyncRefinement
+pub mod PeerRefinement

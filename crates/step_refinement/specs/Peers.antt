@@ -4,36 +4,36 @@ use Rattle.ens_base.specs.Limits.{IsKey, IsCommand}
 use Rattle.ens_base.specs.Lists.{◌∈◌}
 use Rattle.ens_base.specs.declared.entry.Entry.{Entry}
 use Rattle.ens_base.specs.declared.epoch.Version.{Version}
-use Rattle.ens_object.specs.Objects.{IsObject}
-use Rattle.abstract_protocol.specs.Numbers.{IsVersion}
-use Rattle.abstract_protocol.specs.Objects.{IsHonest}
-use Rattle.abstract_protocol.specs.Protocol.{State}
+use Rattle.stored_formats.specs.Objects.{IsObject}
+use Rattle.protocol_laws.specs.Numbers.{IsVersion}
+use Rattle.protocol_laws.specs.Objects.{IsHonest}
+use Rattle.protocol_laws.specs.Protocol.{State}
 use Rattle.call_table.specs.Calls.{running}
 use Rattle.call_table.specs.Rows.{row_at}
 use Rattle.election_refinement.specs.Listed.{IsListedFact}
 use Rattle.election_refinement.specs.Refinement.{IsSaved}
-use Rattle.tree_refinement.specs.HeldStores.{Held, HeldStores}
+use Rattle.peer_refinement.specs.WorldSpec.{Held, HeldStores}
 use Rattle.leader_refinement.specs.Follows.{Hash, LeaderFits, TaskHolds}
 use Rattle.leader_refinement.specs.Laws.{EntryFits}
 use Rattle.leader_refinement.specs.Seen.{rank}
-use Rattle.leader_words.specs.declared.out.Outgoing.{Outgoing}
-use Rattle.leading.specs.declared.pending.Pending.TheVariants as tasks
+use Rattle.leader_output.specs.declared.out.Outgoing.{Outgoing}
+use Rattle.leader.specs.declared.pending.Pending.TheVariants as tasks
 use Rattle.peer_state.specs.declared.state.Phase.{Phase}
 use Rattle.peer_state.specs.declared.state.Phase.TheVariants as phases
-use Rattle.peer_fact.specs.declared.fact.Fact.{Fact}
-use Rattle.sync_laws.specs.Facts.{Lines}
+use Rattle.stored_formats.specs.declared.fact.Fact.{Fact}
+use Rattle.role_laws.specs.Facts.{Lines}
 use Rattle.wire_frames.specs.declared.frame.Frame.{Frame}
 use Rattle.wire_frames.specs.declared.message.Message.{Message}
 use Rattle.wire_frames.specs.declared.message.Message.TheVariants as messages
-use Rattle.seal_laws.specs.Kept.{IsSealed, RootHolds, named_by}
+use Rattle.role_laws.specs.Kept.{IsSealed, RootHolds, named_by}
 use Rattle.step_plans.specs.Saved.{bare, kept_seal}
-use Rattle.sync_refinement.specs.RequestRefinement.{VersionSays, EntryMaySay}
-use Rattle.sync_refinement.specs.Syncs.{TreeSays, MayReturn, GiveFits, SyncSays}
-use Rattle.running_sync.specs.Running.{Running}
-use Rattle.sync_rule.specs.Syncs.{is_clean}
+use Rattle.peer_refinement.specs.Naming.{VersionSays, EntryMaySay}
+use Rattle.peer_refinement.specs.Syncs.{TreeSays, MayReturn, GiveFits, SyncSays}
+use Rattle.tree_sync.specs.Running.{Running}
+use Rattle.tree_sync.specs.Syncs.{is_clean}
 use Rattle.tree_node.specs.declared.body.Scan.{Scan}
 use Rattle.tree_node.specs.declared.version.TreeVersion.{TreeVersion}
-use Rattle.tree_refinement.specs.Tops.{IsNamed, tops_of}
+use Rattle.peer_refinement.specs.Tops.{IsNamed, tops_of}
 use Rattle.world_stores.specs.Nodes.{top_of}
 
 -- ## Trees

@@ -1,11 +1,11 @@
 -- The role of a peer in the theory of leaders, and what its messages say of calls.
 use Rattle.std.specs.Prelude.{ℕ, List, [], ◌∷◌, Option, None, Some}
-use Rattle.abstract_protocol.specs.Numbers.{epoch_number}
-use Rattle.election.specs.declared.election.Election.{Election}
-use Rattle.election.specs.declared.election.Election.TheVariants.{Preparing, Starting}
-use Rattle.leader_words.specs.declared.out.Outgoing.{Outgoing}
-use Rattle.leader_laws.specs.Tables.{Owed}
-use Rattle.leader_laws.specs.Roles.{Role, Follows, Starts, Leads, Said, Reads, Entry, Checks, Stands, Puts, Acks, Sent}
+use Rattle.protocol_laws.specs.Numbers.{epoch_number}
+use Rattle.phase_rules.specs.declared.election.Election.{Election}
+use Rattle.phase_rules.specs.declared.election.Election.TheVariants.{Preparing, Starting}
+use Rattle.leader_output.specs.declared.out.Outgoing.{Outgoing}
+use Rattle.role_laws.specs.Tables.{Owed}
+use Rattle.role_laws.specs.Roles.{Role, Follows, Starts, Leads, Said, Reads, Entry, Checks, Stands, Puts, Acks, Sent}
 use Rattle.leader_refinement.specs.Seen.{rank, content_of, entry_rank, shown, table_of}
 use Rattle.peer_state.specs.declared.state.Phase.{Phase}
 use Rattle.peer_state.specs.declared.state.Phase.TheVariants as phases

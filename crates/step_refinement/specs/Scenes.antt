@@ -3,17 +3,17 @@
 use Rattle.std.specs.Prelude.{All, ◌≡◌, ◌≢◌, ◌<◌, ◌^◌, ℕ, List, [], ◌++◌, length, Some}
 use Rattle.ens_base.specs.Lists.{◌∈◌}
 use Rattle.ens_base.specs.View.{IsPeer}
-use Rattle.abstract_protocol.specs.Ledger.{put}
-use Rattle.abstract_protocol.specs.Protocol.{State, Step, IsRun, state_after}
-use Rattle.entry_laws.specs.Stays.{EntriesStay}
+use Rattle.protocol_laws.specs.Ledger.{put}
+use Rattle.protocol_laws.specs.Protocol.{State, Step, IsRun, state_after}
+use Rattle.protocol_laws.specs.Stays.{EntriesStay}
 use Rattle.election_refinement.specs.Keeps.{Keeps}
 use Rattle.election_refinement.specs.Listed.{IsListedPeer, IsListedMessage}
 use Rattle.election_refinement.specs.Refinement.{PeerHolds, MessageHolds, SendHolds, IsOrderly}
-use Rattle.tree_refinement.specs.HeldStores.{Held}
-use Rattle.leader_laws.specs.Roles.{Role, Follows, Said, Sent, RolesHold}
-use Rattle.leader_laws.specs.Tables.{Ghosts}
+use Rattle.peer_refinement.specs.WorldSpec.{Held}
+use Rattle.role_laws.specs.Roles.{Role, Follows, Said, Sent, RolesHold}
+use Rattle.role_laws.specs.Tables.{Ghosts}
 use Rattle.leader_refinement.specs.Seen.{owed_after}
-use Rattle.leader_words.specs.declared.out.Outgoing.{Outgoing}
+use Rattle.leader_output.specs.declared.out.Outgoing.{Outgoing}
 use Rattle.peer_state.specs.declared.event.Event.{Event}
 use Rattle.peer_state.specs.declared.event.Event.TheVariants as events
 use Rattle.peer_state.specs.declared.state.State.{State as PeerState}
@@ -24,11 +24,11 @@ use Rattle.wire_frames.specs.Messages.{Obeys}
 use Rattle.wire_frames.specs.declared.message.Message.{Message}
 use Rattle.step_refinement.specs.Peers.{TreeHolds, DownHolds, SealFits, AcksSay, AsksFit, PhaseFits, TaskFits, IsAtRest, MessageFits, SendFits, SyncFits}
 use Rattle.step_refinement.specs.Roles.{role_in, said_of, said_in_sends}
-use Rattle.sync_refinement.specs.RequestRefinement.{hash_of}
-use Rattle.sync_laws.specs.Facts.{Lines, AreFirm}
-use Rattle.sync_refinement.specs.Laws.{FirmAreKept}
+use Rattle.peer_refinement.specs.Naming.{hash_of}
+use Rattle.role_laws.specs.Facts.{Lines, AreFirm}
+use Rattle.peer_refinement.specs.SyncLaws.{FirmAreKept}
 use Rattle.tree_node.specs.declared.version.TreeVersion.{TreeVersion}
-use Rattle.tree_refinement.specs.Trees.{AreFree}
+use Rattle.peer_refinement.specs.Trees.{AreFree}
 
 -- what is fixed during a step: what the lines of the schedule say, the version of the trees of all peers that
 -- run, the opening view, the run before it,

@@ -1,16 +1,16 @@
 -- What a step of one peer ends in, on an event and on a call.
 use Rattle.std.specs.Prelude.{◌≡◌, ◌<◌, ◌+◌, ◌^◌, [], ◌∷◌, length}
-use Rattle.abstract_protocol.specs.Book.{MayCall}
-use Rattle.abstract_protocol.specs.Protocol.{State, Ask, state_after}
-use Rattle.tree_refinement.specs.HeldStores.{Held, run}
-use Rattle.peer_plan.specs.Drives.{step_of}
+use Rattle.protocol_laws.specs.Book.{MayCall}
+use Rattle.protocol_laws.specs.Protocol.{State, Ask, state_after}
+use Rattle.peer_refinement.specs.WorldSpec.{Held, run}
+use Rattle.peer_spec.specs.Drives.{step_of}
 use Rattle.peer_state.specs.declared.event.CallIn.{CallIn}
 use Rattle.peer_state.specs.declared.event.Event.{Event}
 use Rattle.peer_state.specs.declared.event.Event.TheVariants as events
 use Rattle.peer_state.specs.declared.state.State.{State as PeerState}
 use Rattle.register_model.specs.declared.call.Call.{Call}
 use Rattle.step_plans.specs.Plans.{nothing}
-use Rattle.tree_refinement.specs.Trees.{AreAmong}
+use Rattle.peer_refinement.specs.Trees.{AreAmong}
 use Rattle.step_refinement.specs.Scenes.{Scene, state_before, now, AtRest, EventComes, EndsBy}
 use Rattle.step_refinement.specs.Peers.{AsksFit, EpochsFit}
 

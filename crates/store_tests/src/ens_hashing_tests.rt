@@ -1,5 +1,5 @@
 use ens_base::Digest;
-use ens_hashing::*;
+use hash_book::*;
 use std::test::Fail;
 
 /// The MD5 of `abc` (RFC 1321, A.5).

@@ -1,5 +1,5 @@
 use ens_base::Bytes;
-use ens_outside::{Link, LinkError, MemLink, MemQueue, MemTicker, Ticker};
+use environment::{Link, LinkError, MemLink, MemQueue, MemTicker, Ticker};
 use std::test::Fail;
 
 /// Whether a look gave this frame, or nothing.

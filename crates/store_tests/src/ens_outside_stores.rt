@@ -1,5 +1,5 @@
 use ens_base::{Digest, Key};
-use ens_outside::{Backend, FailingCall, Leaves, MemBackend, MemNodes, NodeStore, StoreError};
+use environment::{Backend, FailingCall, Leaves, MemBackend, MemNodes, NodeStore, StoreError};
 use std::alloc::Global;
 use std::test::Fail;
 

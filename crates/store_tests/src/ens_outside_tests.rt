@@ -1,5 +1,5 @@
 use ens_base::Status;
-use ens_outside::{
+use environment::{
     Lines, MemSink, MemSource, Next, NextError, ReaderSource, Sink, Source, WriterSink, finish,
     write_all,
 };

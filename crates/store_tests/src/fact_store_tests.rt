@@ -1,9 +1,9 @@
 use ens_base::{Digest, Epoch, PeerId, View};
 use fact_store::{FactFile, FactKeeper, KeepError, Kept, MemFacts};
-use peer_fact::{Change, Fact, FactError, SavedFact};
 use slot_disk::{Disk, Failing, Image, MemDisk, Room};
 use std::alloc::Global;
 use std::test::Fail;
+use stored_formats::{Change, Fact, FactError, SavedFact};
 
 /// Room for the tests below.
 const ROOM: Room = Room {

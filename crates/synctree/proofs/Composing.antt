@@ -1,6 +1,6 @@
 -- One plan after another.
 use Rattle.std.proofs.Common.{◌≡◌, ℕ, List, ◌++◌, Result, Ok, Err, refl, ap, ◌∙◌, inl, inr}
-use Rattle.tree_maps.specs.TreeNode.{Position}
+use Rattle.synctree.specs.TreeNode.{Position}
 use Rattle.synctree.specs.declared.error.TreeError.{TreeError}
 use Rattle.synctree.specs.declared.error.TreeError.TheVariants.{Damaged, Failed, Clash, BookFull, Memory}
 use Rattle.synctree.specs.Plans.{Call, Node, Hash, AnswerOf, Plan, Done, Broken, Ask, ◌>>=◌, hashed, Ends, Stops, Did}

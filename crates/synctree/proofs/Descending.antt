@@ -5,20 +5,20 @@ use Rattle.ens_base.proofs.Lists.{bytes_same}
 use Rattle.std.specs.Prelude.{IsErr, if◌then◌else◌}
 use Rattle.std.specs.Option.{is_some}
 use Rattle.std.specs.Result.{IsErrAnd}
-use Rattle.ens_hashing.specs.Hashing.{Book}
+use Rattle.hash_book.specs.Hashing.{Book}
 use Rattle.md5.specs.Md5.{md5}
 use Rattle.ens_base.specs.declared.entry.Entry.{Entry}
 use Rattle.ens_base.specs.Lists.{◌∈◌, same_bytes}
-use Rattle.ens_outside.specs.Stores.{NodeCall, NodeAnswer}
-use Rattle.ens_outside.specs.declared.errors.StoreError.{StoreError}
-use Rattle.tree_maps.specs.TreeNode.{Position, TreeVersion, levels, IsPosition, inner_of, segment_of}
-use Rattle.tree_maps.proofs.TreeNode.{levels_few}
-use Rattle.tree_maps.specs.Sixteen.{form_of, children_in, entries_in}
-use Rattle.tree_maps.specs.Forms.{Form, Laws, IsPlace, root}
-use Rattle.tree_maps.specs.Maps.{within, named, text, children, AreApart, Stands}
-use Rattle.tree_maps.specs.Paths.{under, present, node_of}
-use Rattle.tree_maps.proofs.Unique.{root_is_node, child_is}
-use Rattle.tree_maps.proofs.Below.{IsThere, place, under_child, child_again, parent_place, node_below, some_width, present_is, first_text}
+use Rattle.environment.specs.Stores.{NodeCall, NodeAnswer}
+use Rattle.environment.specs.declared.errors.StoreError.{StoreError}
+use Rattle.synctree.specs.TreeNode.{Position, TreeVersion, levels, IsPosition, inner_of, segment_of}
+use Rattle.synctree.proofs.TreeNode.{levels_few}
+use Rattle.synctree.specs.Sixteen.{form_of, children_in, entries_in}
+use Rattle.synctree.specs.Forms.{Form, Laws, IsPlace, root}
+use Rattle.synctree.specs.Maps.{within, named, text, children, AreApart, Stands}
+use Rattle.synctree.specs.Paths.{under, present, node_of}
+use Rattle.synctree.proofs.Unique.{root_is_node, child_is}
+use Rattle.synctree.proofs.Below.{IsThere, place, under_child, child_again, parent_place, node_below, some_width, present_is, first_text}
 use Rattle.std.proofs.Math.Nat.{mod-lt}
 use Rattle.synctree.specs.declared.error.TreeError.{TreeError}
 use Rattle.synctree.specs.Plans.{Call, AnswerOf, Done, Broken, Ends, Did}

@@ -2,9 +2,9 @@
 use Rattle.std.proofs.Common.{◌≡◌, ℕ, List, [], Option, None, Some, Result, Ok, Err, refl, ap, sym, ◌∙◌, subst, inl, inr}
 use Rattle.std.specs.Prelude.{IsErr, if◌then◌else◌, true, false, Bool}
 use Rattle.std.specs.Result.{IsErrAnd}
-use Rattle.ens_hashing.specs.Hashing.{Book}
-use Rattle.ens_outside.specs.Stores.{NodeCall, NodeAnswer, Read}
-use Rattle.ens_outside.specs.declared.errors.StoreError.{StoreError}
+use Rattle.hash_book.specs.Hashing.{Book}
+use Rattle.environment.specs.Stores.{NodeCall, NodeAnswer, Read}
+use Rattle.environment.specs.declared.errors.StoreError.{StoreError}
 use Rattle.synctree.specs.declared.error.TreeError.{TreeError}
 use Rattle.synctree.specs.declared.error.TreeError.TheVariants.{Damaged, Failed, Clash, BookFull, Memory}
 use Rattle.synctree.specs.Plans.{Node, Hash, Plan, Done, Broken, Ask, ◌>>=◌, Did}
@@ -12,7 +12,7 @@ use Rattle.synctree.specs.Outsides.{outside_does, outside_refuses}
 use Rattle.synctree.specs.Halves.{NodesDid, HasherDid}
 use Rattle.md5.specs.Md5.{md5}
 use Rattle.ens_base.specs.Lists.{same_bytes}
-use Rattle.tree_maps.specs.TreeNode.{Position}
+use Rattle.synctree.specs.TreeNode.{Position}
 use Rattle.synctree.specs.Walks.{verified, fetch, spelled}
 use Rattle.synctree.specs.Answers.{Spells, Makes}
 use Rattle.synctree.proofs.Composing.{did_ask, did_then, did_err, stops_memory}

@@ -3,11 +3,11 @@ use Rattle.std.proofs.Common.{◌≡◌, ℕ, suc, List, [], Option, None, Some,
 use Rattle.std.specs.Prelude.{IsErr}
 use Rattle.std.specs.Result.{IsErrAnd}
 use Rattle.ens_base.specs.declared.entry.Entry.{Entry}
-use Rattle.ens_hashing.specs.Hashing.{Book}
-use Rattle.ens_outside.specs.Stores.{NodeCall, NodeAnswer}
-use Rattle.ens_outside.specs.declared.errors.StoreError.{StoreError}
-use Rattle.tree_maps.specs.TreeNode.{Position}
-use Rattle.tree_maps.specs.Forms.{Form, child}
+use Rattle.hash_book.specs.Hashing.{Book}
+use Rattle.environment.specs.Stores.{NodeCall, NodeAnswer}
+use Rattle.environment.specs.declared.errors.StoreError.{StoreError}
+use Rattle.synctree.specs.TreeNode.{Position}
+use Rattle.synctree.specs.Forms.{Form, child}
 use Rattle.synctree.specs.declared.error.TreeError.{TreeError}
 use Rattle.std.specs.Option.{option_map}
 use Rattle.synctree.specs.Nodes.{child_name}

@@ -1,3 +1,10 @@
+pub mod Orders
+pub mod Parts
+pub mod Names
+pub mod Unique
+pub mod Formats
+pub mod Below
+pub mod Slices
 pub mod Composing
 pub mod Exits
 pub mod Spreading
@@ -11,3 +18,5 @@ pub mod Descending
 pub mod Shapes
 pub mod Writing
 pub mod Records
+pub mod Fields
+pub mod TreeNode

@@ -5,12 +5,12 @@ use Rattle.std.specs.Prelude.{◌==◌}
 use Rattle.md5.specs.Md5.{md5}
 use Rattle.ens_base.specs.declared.entry.Entry.{Entry}
 use Rattle.ens_base.specs.Lists.{◌∈◌, same_bytes}
-use Rattle.tree_maps.specs.TreeNode.{Position}
-use Rattle.tree_maps.specs.Entries.{IsMap, lookup}
-use Rattle.tree_maps.specs.Forms.{Form, Laws, IsPlace, child, root}
-use Rattle.tree_maps.specs.Maps.{within, named, text, children, AreApart, Stands}
-use Rattle.tree_maps.proofs.Parts.{map_part}
-use Rattle.tree_maps.proofs.Unique.{some_once, root_is_node, root_place, child_place, child_is, children_again, lookup_within}
+use Rattle.synctree.specs.TreeNode.{Position}
+use Rattle.synctree.specs.Entries.{IsMap, lookup}
+use Rattle.synctree.specs.Forms.{Form, Laws, IsPlace, child, root}
+use Rattle.synctree.specs.Maps.{within, named, text, children, AreApart, Stands}
+use Rattle.synctree.proofs.Parts.{map_part}
+use Rattle.synctree.proofs.Unique.{some_once, root_is_node, root_place, child_place, child_is, children_again, lookup_within}
 use Rattle.synctree.specs.declared.error.TreeError.{TreeError}
 use Rattle.synctree.specs.Meanings.{Finds}
 use Rattle.synctree.specs.Plans.{Call, AnswerOf, Plan, Done, Broken, Ask, ◌>>=◌, hashed, Ends, Did}

@@ -1,10 +1,10 @@
 -- Positions in the tree of a version.
 use Rattle.std.proofs.Common.{◌≡◌, ℕ, zero, suc, ◌+◌, ◌-◌, ◌*◌, ◌<◌, ◌≤◌, ◌^◌, List, refl, sym, subst, arith}
-use Rattle.tree_maps.proofs.Unique.{child_place}
-use Rattle.tree_maps.specs.TreeNode.{Position, TreeVersion, levels, IsPosition, inner_of, segment_of}
-use Rattle.tree_maps.proofs.TreeNode.{levels_few}
-use Rattle.tree_maps.specs.Forms.{IsPlace, child}
-use Rattle.tree_maps.specs.Sixteen.{form_of, nibble, children_in, entries_in}
+use Rattle.synctree.proofs.Unique.{child_place}
+use Rattle.synctree.specs.TreeNode.{Position, TreeVersion, levels, IsPosition, inner_of, segment_of}
+use Rattle.synctree.proofs.TreeNode.{levels_few}
+use Rattle.synctree.specs.Forms.{IsPlace, child}
+use Rattle.synctree.specs.Sixteen.{form_of, nibble, children_in, entries_in}
 use Rattle.md5.specs.Md5.{md5}
 
 pub child_is : (v : TreeVersion) (at : Position) (c : ℕ) → child (form_of v) at c ≡ record { level = at.level + 1; index = 16 * at.index + c }

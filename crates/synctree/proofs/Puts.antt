@@ -6,23 +6,22 @@ use Rattle.std.specs.declared.cmp.Ordering.{Ordering}
 use Rattle.std.specs.declared.cmp.Ordering.TheVariants.{Less, Equal, Greater}
 use Rattle.ens_base.specs.declared.entry.Entry.{Entry}
 use Rattle.ens_base.specs.Lists.{bytes_cmp}
-use Rattle.ens_hashing.specs.Hashing.{Book}
-use Rattle.ens_outside.specs.Stores.{NodeCall, NodeAnswer}
-use Rattle.ens_outside.specs.declared.errors.StoreError.{StoreError}
-use Rattle.tree_maps.specs.TreeNode.{Position, TreeVersion, InnerNode, NodeError, inner_spelling, segment_spelling, inner_of, IsNext, AreAbove, AreEntries, AreListed}
-use Rattle.tree_maps.specs.Entries.{IsBelowAll, Ascends, put}
-use Rattle.tree_maps.specs.Forms.{Form, child}
-use Rattle.tree_maps.specs.Sixteen.{form_of, spread, children_of, inner_node, segment, children_in}
-use Rattle.tree_maps.proofs.Parts.{ascends-put, below_trans}
-use Rattle.tree_maps.proofs.Formats.{above_of}
-use Rattle.tree_maps.proofs.TreeNode.{less_above}
+use Rattle.hash_book.specs.Hashing.{Book}
+use Rattle.environment.specs.Stores.{NodeCall, NodeAnswer}
+use Rattle.environment.specs.declared.errors.StoreError.{StoreError}
+use Rattle.synctree.specs.TreeNode.{Position, TreeVersion, InnerNode, NodeError, inner_spelling, segment_spelling, inner_of, IsNext, AreAbove, AreEntries, AreListed}
+use Rattle.synctree.specs.Entries.{IsBelowAll, Ascends, put}
+use Rattle.synctree.specs.Forms.{Form, child}
+use Rattle.synctree.specs.Sixteen.{form_of, spread, children_of, inner_node, segment, children_in}
+use Rattle.synctree.proofs.Parts.{ascends-put, below_trans}
+use Rattle.synctree.proofs.Formats.{above_of}
+use Rattle.synctree.proofs.TreeNode.{less_above, key_above}
 use Rattle.synctree.specs.declared.error.TreeError.{TreeError}
 use Rattle.synctree.specs.Plans.{Call, AnswerOf, Did}
 use Rattle.synctree.specs.Walks.{open_node, reach, store, enter}
 use Rattle.synctree.proofs.Exits.{DidOutside, after, cut_off}
 use Rattle.synctree.proofs.Meaning.{opened}
 use Rattle.synctree.proofs.Places.{inner_is}
-use Rattle.tree_maps.proofs.TreeNode.{key_above}
 
 pub inner_text_is : (v : TreeVersion) (at : Position) (cs : List (Option (List ℕ))) → (form_of v).inner_text at cs ≡ inner_spelling (inner_node v at cs)
 unfolding form_of

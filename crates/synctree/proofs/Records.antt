@@ -4,14 +4,14 @@ use Rattle.std.specs.Prelude.{IsErrOf}
 use Rattle.md5.specs.Md5.{md5}
 use Rattle.ens_base.specs.Lists.{same_bytes}
 use Rattle.ens_base.specs.declared.entry.Entry.{Entry}
-use Rattle.ens_hashing.specs.Hashing.{Book}
-use Rattle.ens_outside.specs.Stores.{NodeCall, NodeAnswer, Read, Write, Top, SetTop, SetsTop}
-use Rattle.ens_outside.specs.Told.{StaysTold}
-use Rattle.ens_outside.specs.declared.errors.StoreError.{StoreError}
-use Rattle.ens_outside.specs.declared.errors.StoreError.TheVariants as stores
-use Rattle.tree_maps.specs.TreeNode.{Position}
-use Rattle.tree_maps.specs.Entries.{put}
-use Rattle.tree_maps.specs.Forms.{Form, child}
+use Rattle.hash_book.specs.Hashing.{Book}
+use Rattle.environment.specs.Stores.{NodeCall, NodeAnswer, Read, Write, Top, SetTop, SetsTop}
+use Rattle.environment.specs.Told.{StaysTold}
+use Rattle.environment.specs.declared.errors.StoreError.{StoreError}
+use Rattle.environment.specs.declared.errors.StoreError.TheVariants as stores
+use Rattle.synctree.specs.TreeNode.{Position}
+use Rattle.synctree.specs.Entries.{put}
+use Rattle.synctree.specs.Forms.{Form, child}
 use Rattle.synctree.specs.Halves.{NodesDid}
 use Rattle.synctree.specs.Installs.{store_does, store_refuses, write_all}
 use Rattle.synctree.specs.Outsides.{outside_does, outside_refuses}

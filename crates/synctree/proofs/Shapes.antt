@@ -3,14 +3,14 @@ use Rattle.std.proofs.Common.{◌≡◌, ℕ, zero, suc, ◌<◌, true, false, L
 use Rattle.std.specs.Option.{is_some}
 use Rattle.ens_base.specs.Lists.{◌∈◌}
 use Rattle.ens_base.specs.declared.entry.Entry.{Entry}
-use Rattle.tree_maps.specs.EnsFields.{byte_at}
-use Rattle.tree_maps.proofs.EnsFields.{byte_grammar}
-use Rattle.tree_maps.specs.TreeNode.{BadTag, InnerNode, Position, TreeVersion, One, Two, levels, inner_spelling, inner_at, inner_of}
-use Rattle.tree_maps.specs.Forms.{IsPlace, root}
-use Rattle.tree_maps.specs.Maps.{text, children, AreApart, Stands}
-use Rattle.tree_maps.specs.Sixteen.{form_of, inner_node, children_in}
-use Rattle.tree_maps.proofs.Formats.{form_laws}
-use Rattle.tree_maps.proofs.Unique.{children_again, root_place, root_is_node, some_once}
+use Rattle.synctree.specs.Fields.{byte_at}
+use Rattle.synctree.proofs.Fields.{byte_grammar}
+use Rattle.synctree.specs.TreeNode.{BadTag, InnerNode, Position, TreeVersion, One, Two, levels, inner_spelling, inner_at, inner_of}
+use Rattle.synctree.specs.Forms.{IsPlace, root}
+use Rattle.synctree.specs.Maps.{text, children, AreApart, Stands}
+use Rattle.synctree.specs.Sixteen.{form_of, inner_node, children_in}
+use Rattle.synctree.proofs.Formats.{form_laws}
+use Rattle.synctree.proofs.Unique.{children_again, root_place, root_is_node, some_once}
 use Rattle.synctree.specs.declared.error.TreeError.{TreeError}
 use Rattle.synctree.specs.Plans.{Call, AnswerOf, Ends, Did}
 use Rattle.synctree.specs.Shapes.{is_root, version_in, shape_under, shape_plan, Tells}

@@ -3,8 +3,8 @@ use Rattle.std.proofs.Common.{◌≡◌, ℕ, zero, suc, get_or, ◌+◌, ◌*�
 use Rattle.std.specs.Prelude.{slice_get, ◌==◌}
 use lib.Pow.{pow_mono}
 use mir.Val.{bool_byte}
-use Rattle.tree_maps.specs.Sixteen.{spread, children_of, mask_of}
-use Rattle.tree_maps.proofs.Formats.{mask_below}
+use Rattle.synctree.specs.Sixteen.{spread, children_of, mask_of}
+use Rattle.synctree.proofs.Formats.{mask_below}
 
 pub spread_first : (k mask : ℕ) (ds : List (List ℕ)) → k + 0 ≡ 16 → children_of mask ds ≡ spread k mask (drop 0 ds)
 unfolding children_of

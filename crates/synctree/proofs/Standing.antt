@@ -5,13 +5,13 @@ use Rattle.std.proofs.lemmas.Bool.Decides.{nat_tests}
 use Rattle.md5.specs.Md5.{md5}
 use Rattle.ens_base.specs.declared.entry.Entry.{Entry}
 use Rattle.ens_base.specs.Lists.{◌∈◌}
-use Rattle.tree_maps.specs.EnsFields.{IsEntry}
-use Rattle.tree_maps.specs.TreeNode.{Position}
-use Rattle.tree_maps.specs.Entries.{Ascends, IsMap, put}
-use Rattle.tree_maps.specs.Forms.{Form, Laws, IsPlace, child, root}
-use Rattle.tree_maps.specs.Maps.{within, named, text, children, AreApart, Stands}
-use Rattle.tree_maps.proofs.Parts.{each-none, set-each, put-part, put-other, named-put, map_part, map_put}
-use Rattle.tree_maps.proofs.Unique.{has_entries, root_place, child_place, child_is}
+use Rattle.synctree.specs.Fields.{IsEntry}
+use Rattle.synctree.specs.TreeNode.{Position}
+use Rattle.synctree.specs.Entries.{Ascends, IsMap, put}
+use Rattle.synctree.specs.Forms.{Form, Laws, IsPlace, child, root}
+use Rattle.synctree.specs.Maps.{within, named, text, children, AreApart, Stands}
+use Rattle.synctree.proofs.Parts.{each-none, set-each, put-part, put-other, named-put, map_part, map_put}
+use Rattle.synctree.proofs.Unique.{has_entries, root_place, child_place, child_is}
 use Rattle.synctree.specs.declared.error.TreeError.{TreeError}
 use Rattle.synctree.specs.Meanings.{Inserts}
 use Rattle.synctree.specs.Plans.{Call, AnswerOf, ◌>>=◌, Ends, Did}

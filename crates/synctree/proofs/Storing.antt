@@ -1,13 +1,13 @@
 -- The steps of writing a node.
 use Rattle.std.proofs.Common.{◌≡◌, ℕ, List, [], Option, Ok, Err, refl, sym, subst}
-use Rattle.ens_hashing.specs.Hashing.{Book}
+use Rattle.hash_book.specs.Hashing.{Book}
 use Rattle.md5.specs.Md5.{md5}
-use Rattle.ens_outside.specs.Stores.{NodeCall, NodeAnswer, Write}
-use Rattle.ens_outside.specs.declared.errors.StoreError.{StoreError}
-use Rattle.tree_maps.specs.TreeNode.{TreeVersion, One, Two, inner_spelling}
-use Rattle.tree_maps.specs.Forms.{root}
-use Rattle.tree_maps.specs.Maps.{text}
-use Rattle.tree_maps.specs.Sixteen.{form_of}
+use Rattle.environment.specs.Stores.{NodeCall, NodeAnswer, Write}
+use Rattle.environment.specs.declared.errors.StoreError.{StoreError}
+use Rattle.synctree.specs.TreeNode.{TreeVersion, One, Two, inner_spelling}
+use Rattle.synctree.specs.Forms.{root}
+use Rattle.synctree.specs.Maps.{text}
+use Rattle.synctree.specs.Sixteen.{form_of}
 use Rattle.synctree.specs.declared.error.TreeError.{TreeError}
 use Rattle.synctree.specs.Plans.{Node, Done, Ask}
 use Rattle.synctree.specs.Halves.{NodesDid, HasherDid}

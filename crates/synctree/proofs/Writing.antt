@@ -1,8 +1,8 @@
 -- The steps of an install.
 use Rattle.std.proofs.Common.{◌≡◌, ℕ, ◌+◌, ◌<◌, ◌≤◌, List, [], Option, Result, Ok, Err, length, get_or, drop, refl, sym, subst, inl, inr}
-use Rattle.ens_outside.specs.Stores.{NodeCall, NodeAnswer, Write, SetTop}
-use Rattle.ens_outside.specs.declared.errors.StoreError.{StoreError}
-use Rattle.tree_maps.proofs.Slices.{drop_at, drop_all}
+use Rattle.environment.specs.Stores.{NodeCall, NodeAnswer, Write, SetTop}
+use Rattle.environment.specs.declared.errors.StoreError.{StoreError}
+use Rattle.synctree.proofs.Slices.{drop_at, drop_all}
 use Rattle.synctree.specs.declared.error.TreeError.{TreeError}
 use Rattle.synctree.specs.declared.error.TreeError.TheVariants.{Damaged, Failed, Clash, BookFull, Memory}
 use Rattle.synctree.specs.declared.stored_node.StoredNode.{StoredNode}

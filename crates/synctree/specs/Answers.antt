@@ -1,6 +1,6 @@
 -- The result of a call that uses neither the store nor the hasher.
 use Rattle.std.specs.Prelude.{◌≡◌, Option, None, Some, Result, Ok, Err}
-use Rattle.tree_maps.specs.TreeNode.{Position}
+use Rattle.synctree.specs.TreeNode.{Position}
 use Rattle.synctree.specs.declared.error.TreeError.{TreeError}
 use Rattle.synctree.specs.declared.error.TreeError.TheVariants.{Damaged, Memory}
 

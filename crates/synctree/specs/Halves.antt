@@ -1,12 +1,12 @@
 -- What one call to the store, or to the hasher, did.
 use Rattle.std.specs.Prelude.{◌≡◌, ◌≤◌, ℕ, List, Option, Result, Ok, Err}
 use Rattle.ens_base.specs.Causes.{Rose}
-use Rattle.ens_hashing.specs.Hashing.{Book, Takes, Stays, Refuses}
-use Rattle.ens_hashing.specs.declared.error.HashError.{HashError}
-use Rattle.ens_hashing.specs.declared.error.HashError.TheVariants as hashes
-use Rattle.ens_outside.specs.Stores.{NodeCall, NodeAnswer}
-use Rattle.ens_outside.specs.declared.errors.StoreError.{StoreError}
-use Rattle.ens_outside.specs.declared.errors.StoreError.TheVariants as stores
+use Rattle.hash_book.specs.Hashing.{Book, Takes, Stays, Refuses}
+use Rattle.hash_book.specs.declared.error.HashError.{HashError}
+use Rattle.hash_book.specs.declared.error.HashError.TheVariants as hashes
+use Rattle.environment.specs.Stores.{NodeCall, NodeAnswer}
+use Rattle.environment.specs.declared.errors.StoreError.{StoreError}
+use Rattle.environment.specs.declared.errors.StoreError.TheVariants as stores
 use Rattle.synctree.specs.Outsides.{TopAfter, TopRefused}
 use Rattle.synctree.specs.declared.error.TreeError.{TreeError}
 use Rattle.synctree.specs.declared.error.TreeError.TheVariants.{Failed, Clash, BookFull, Memory}

@@ -1,9 +1,9 @@
 -- Nodes and a top record written to a store, as a plan that asks no hasher.
 use Rattle.std.specs.Prelude.{◌≡◌, ◌≤◌, ℕ, List, [], ◌∷◌, Option}
 use Rattle.ens_base.specs.Causes.{Rose}
-use Rattle.ens_outside.specs.Stores.{NodeCall, NodeAnswer, Write}
-use Rattle.ens_outside.specs.declared.errors.StoreError.{StoreError}
-use Rattle.ens_outside.specs.declared.errors.StoreError.TheVariants as stores
+use Rattle.environment.specs.Stores.{NodeCall, NodeAnswer, Write}
+use Rattle.environment.specs.declared.errors.StoreError.{StoreError}
+use Rattle.environment.specs.declared.errors.StoreError.TheVariants as stores
 use Rattle.synctree.specs.Outsides.{TopAfter, TopRefused}
 use Rattle.synctree.specs.Plans.{Call, Node, Hash, AnswerOf, Plan, Done, Ask, ◌>>=◌}
 use Rattle.synctree.specs.Walks.{set_top}

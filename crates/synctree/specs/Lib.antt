@@ -1,3 +1,8 @@
+pub mod Entries
+pub mod Forms
+pub mod Maps
+pub mod Sixteen
+pub mod Paths
 pub mod Plans
 pub mod Outsides
 pub mod Halves
@@ -10,3 +15,5 @@ pub mod Shapes
 pub mod Installs
 pub mod Seals
 pub mod Records
+pub mod Fields
+pub mod TreeNode

@@ -2,10 +2,10 @@
 use Rattle.std.specs.Option.{IsSomeAnd}
 use Rattle.std.specs.Prelude.{◌≡◌, ◌<◌, ◌^◌, length, ℕ, List, Option, Some, Result, Ok, Err}
 use Rattle.ens_base.specs.declared.entry.Entry.{Entry}
-use Rattle.tree_maps.specs.EnsFields.{IsEntry}
-use Rattle.tree_maps.specs.Entries.{lookup, put}
-use Rattle.tree_maps.specs.Forms.{Form, root}
-use Rattle.tree_maps.specs.Maps.{AreApart, Stands}
+use Rattle.synctree.specs.Fields.{IsEntry}
+use Rattle.synctree.specs.Entries.{lookup, put}
+use Rattle.synctree.specs.Forms.{Form, root}
+use Rattle.synctree.specs.Maps.{AreApart, Stands}
 use Rattle.synctree.specs.Plans.{Call, AnswerOf, Ends}
 use Rattle.ens_base.specs.declared.refused.Refused.{Refused}
 use Rattle.synctree.specs.declared.error.TreeError.{TreeError}

@@ -2,10 +2,10 @@
 use Rattle.std.specs.Option.{is_some}
 use Rattle.std.specs.Prelude.{◌≡◌, Ok, ℕ, zero, suc, ◌-◌, ◌/◌, ◌%◌, Bool, List, Option, None, Some, get_or, if◌then◌else◌}
 use Rattle.ens_base.specs.declared.entry.Entry.{Entry}
-use Rattle.tree_maps.specs.TreeNode.{Position}
-use Rattle.tree_maps.specs.Forms.{Form, root}
-use Rattle.tree_maps.specs.Maps.{AreApart, Stands}
-use Rattle.tree_maps.specs.Paths.{node_of}
+use Rattle.synctree.specs.TreeNode.{Position}
+use Rattle.synctree.specs.Forms.{Form, root}
+use Rattle.synctree.specs.Maps.{AreApart, Stands}
+use Rattle.synctree.specs.Paths.{node_of}
 use Rattle.synctree.specs.Plans.{Call, AnswerOf, Plan, Done, Broken, ◌>>=◌, Ends}
 use Rattle.synctree.specs.Walks.{fetch, open_node, onward, from_top}
 

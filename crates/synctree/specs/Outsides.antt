@@ -1,12 +1,12 @@
 -- What the store of nodes and the hasher may answer to a tree, taken together.
 use Rattle.std.specs.Prelude.{◌≡◌, ◌≤◌, ℕ, List, Option, Ok, Err}
 use Rattle.ens_base.specs.Causes.{Rose}
-use Rattle.ens_hashing.specs.Hashing.{Book, Takes, Stays, Refuses}
-use Rattle.ens_hashing.specs.declared.error.HashError.TheVariants as hashes
-use Rattle.ens_outside.specs.Stores.{NodeCall, Read, Write, Top, SetTop, NodeAnswer, SetsTop}
-use Rattle.ens_outside.specs.Told.{StaysTold, IsTold}
-use Rattle.ens_outside.specs.declared.errors.StoreError.{StoreError}
-use Rattle.ens_outside.specs.declared.errors.StoreError.TheVariants as stores
+use Rattle.hash_book.specs.Hashing.{Book, Takes, Stays, Refuses}
+use Rattle.hash_book.specs.declared.error.HashError.TheVariants as hashes
+use Rattle.environment.specs.Stores.{NodeCall, Read, Write, Top, SetTop, NodeAnswer, SetsTop}
+use Rattle.environment.specs.Told.{StaysTold, IsTold}
+use Rattle.environment.specs.declared.errors.StoreError.{StoreError}
+use Rattle.environment.specs.declared.errors.StoreError.TheVariants as stores
 use Rattle.synctree.specs.Plans.{Call, Node, Hash, AnswerOf}
 use Rattle.synctree.specs.declared.error.TreeError.{TreeError}
 use Rattle.synctree.specs.declared.error.TreeError.TheVariants.{Failed, Clash, BookFull, Memory}

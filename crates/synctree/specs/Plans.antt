@@ -1,8 +1,8 @@
 -- Plans: the calls that a tree makes to its store and to the hasher, what it does with the answers,
 -- and how a plan ends.
 use Rattle.std.specs.Prelude.{◌≡◌, ◌⊎◌, ℕ, List, [], ◌∷◌, Result, Ok, Err}
-use Rattle.tree_maps.specs.TreeNode.{Position}
-use Rattle.ens_outside.specs.Stores.{NodeCall, NodeAnswer}
+use Rattle.synctree.specs.TreeNode.{Position}
+use Rattle.environment.specs.Stores.{NodeCall, NodeAnswer}
 use Rattle.synctree.specs.declared.error.TreeError.{TreeError}
 use Rattle.synctree.specs.declared.error.TreeError.TheVariants.{Damaged, Failed, Clash, BookFull, Memory}
 

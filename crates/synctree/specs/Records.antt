@@ -1,6 +1,6 @@
 -- What an error leaves in the top record.
 use Rattle.std.specs.Prelude.{◌⊎◌, ℕ, List, Option, Result, IsErrOf, OnErr}
-use Rattle.ens_outside.specs.Told.{StaysTold}
+use Rattle.environment.specs.Told.{StaysTold}
 use Rattle.synctree.specs.declared.error.TreeError.{TreeError}
 use Rattle.synctree.specs.declared.error.TreeError.TheVariants.{Failed}
 

@@ -2,10 +2,10 @@
 use Rattle.std.specs.Option.{is_some}
 use Rattle.std.specs.Prelude.{◌≡◌, ℕ, Bool, List, Option, None, Some, Ok, if◌then◌else◌}
 use Rattle.ens_base.specs.declared.entry.Entry.{Entry}
-use Rattle.tree_maps.specs.TreeNode.{TreeVersion, One, Two, inner_of}
-use Rattle.tree_maps.specs.Forms.{root}
-use Rattle.tree_maps.specs.Maps.{AreApart, Stands}
-use Rattle.tree_maps.specs.Sixteen.{form_of, children_in}
+use Rattle.synctree.specs.TreeNode.{TreeVersion, One, Two, inner_of}
+use Rattle.synctree.specs.Forms.{root}
+use Rattle.synctree.specs.Maps.{AreApart, Stands}
+use Rattle.synctree.specs.Sixteen.{form_of, children_in}
 use Rattle.synctree.specs.Plans.{Call, AnswerOf, Plan, Ends}
 use Rattle.synctree.specs.Walks.{open_node, from_top}
 

@@ -1,9 +1,9 @@
 -- The calls of a tree, as plans. A key is hashed before its path is walked.
 use Rattle.std.specs.Prelude.{ℕ, List, [], Option, Some}
 use Rattle.ens_base.specs.declared.entry.Entry.{Entry}
-use Rattle.ens_outside.specs.Stores.{Top}
-use Rattle.tree_maps.specs.Forms.{Form, root}
-use Rattle.tree_maps.specs.Maps.{text}
+use Rattle.environment.specs.Stores.{Top}
+use Rattle.synctree.specs.Forms.{Form, root}
+use Rattle.synctree.specs.Maps.{text}
 use Rattle.synctree.specs.Plans.{Node, Hash, Plan, Done, Ask, ◌>>=◌}
 use Rattle.synctree.specs.Walks.{find, enter, store, set_top, from_top}
 

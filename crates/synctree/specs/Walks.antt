@@ -3,10 +3,10 @@ use Rattle.std.specs.Prelude.{ℕ, zero, suc, List, [], Option, None, Some, get_
 use Rattle.md5.specs.Md5.{md5}
 use Rattle.ens_base.specs.declared.entry.Entry.{Entry}
 use Rattle.ens_base.specs.Lists.{same_bytes}
-use Rattle.ens_outside.specs.Stores.{Read, Write, SetTop}
-use Rattle.tree_maps.specs.TreeNode.{Position}
-use Rattle.tree_maps.specs.Entries.{put, lookup}
-use Rattle.tree_maps.specs.Forms.{Form, child, root}
+use Rattle.environment.specs.Stores.{Read, Write, SetTop}
+use Rattle.synctree.specs.TreeNode.{Position}
+use Rattle.synctree.specs.Entries.{put, lookup}
+use Rattle.synctree.specs.Forms.{Form, child, root}
 use Rattle.synctree.specs.Plans.{Node, Hash, Plan, Done, Broken, Ask, ◌>>=◌}
 
 -- these bytes, whose MD5 must be the digest

@@ -1,12 +1,12 @@
 ghost use Rattle.std.specs.Prelude.{◌≡◌, IfOk};
 ghost use Rattle.md5.specs.Md5.{md5};
-ghost use Rattle.ens_outside.specs.Stores.{Read, Write, SetTop, Top};
+ghost use Rattle.environment.specs.Stores.{Read, Write, SetTop, Top};
 ghost use Rattle.synctree.specs.Halves.{NodesDid, HasherDid};
 
 use crate::error::TreeError;
 use ens_base::{Bytes, Digest};
-use ens_hashing::{HashError, Hasher16};
-use ens_outside::{NodeStore, StoreError};
+use environment::{NodeStore, StoreError};
+use hash_book::{HashError, Hasher16};
 use std::alloc::Global;
 
 /// Returns the bytes under `digest`, or `None` if there are none.

@@ -1,11 +1,11 @@
 ghost use Rattle.std.specs.Prelude.{◌≡◌, ◌≤◌, [], IfOk, length};
-ghost use Rattle.tree_maps.specs.TreeNode.{IsPosition, AreAbove};
-ghost use Rattle.tree_maps.specs.Sixteen.{form_of};
+ghost use Rattle.synctree.specs.TreeNode.{IsPosition, AreAbove};
+ghost use Rattle.synctree.specs.Sixteen.{form_of};
 
 use crate::shape::{digests, mask};
 use ens_base::Digest;
 use std::alloc::{AllocError, Global};
-use tree_maps::{InnerNode, Position, Segment, TreeVersion};
+use tree_node::{InnerNode, Position, Segment, TreeVersion};
 
 /// Returns the bytes of the inner node of this version with these children, `None` for each that is
 /// missing. Fails only when out of memory.

@@ -1,9 +1,9 @@
 ghost use Rattle.std.specs.Prelude.{◌≡◌, ◌≤◌, ◌<◌, [], None, IfOk, length, replicate};
 ghost use Rattle.md5.specs.Md5.{md5};
-ghost use Rattle.tree_maps.specs.TreeNode.{IsPosition, AreAbove, AreEntries};
-ghost use Rattle.tree_maps.specs.Entries.{put};
-ghost use Rattle.tree_maps.specs.Forms.{IsPlace};
-ghost use Rattle.tree_maps.specs.Sixteen.{form_of};
+ghost use Rattle.synctree.specs.TreeNode.{IsPosition, AreAbove, AreEntries};
+ghost use Rattle.synctree.specs.Entries.{put};
+ghost use Rattle.synctree.specs.Forms.{IsPlace};
+ghost use Rattle.synctree.specs.Sixteen.{form_of};
 ghost use Rattle.synctree.specs.Answers.{Makes};
 ghost use Rattle.synctree.specs.Outsides.{outside_does, outside_refuses};
 ghost use Rattle.synctree.specs.Plans.{Did};
@@ -18,11 +18,11 @@ use crate::shape::{ROOT, WIDTH, child, name_of, nibble, with_child};
 use crate::store::store;
 use crate::walk::{open_inner, open_segment};
 use ens_base::{Digest, Entry, Seq};
-use ens_hashing::Hasher16;
-use ens_outside::NodeStore;
+use environment::NodeStore;
+use hash_book::Hasher16;
 use std::alloc::Global;
 use std::cmp::Ordering;
-use tree_maps::{Position, Segment, TreeVersion};
+use tree_node::{Position, Segment, TreeVersion};
 
 /// Returns the children of an inner node that has none.
 fn no_children(alloc: Global) -> Result<Seq<Option<Digest>>, TreeError>

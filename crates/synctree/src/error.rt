@@ -3,7 +3,7 @@ ghost use Rattle.synctree.specs.declared.error.TreeError.TheVariants.{Memory};
 
 use ens_base::CopyError;
 use std::alloc::{AllocError, AllocFailed};
-use tree_maps::Position;
+use tree_node::Position;
 
 /// Why a call of a tree failed.
 #[derive(Debug, PartialEq, Eq, Drop)]

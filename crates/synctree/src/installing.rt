@@ -7,7 +7,7 @@ use crate::calls::{set_top, write};
 use crate::error::TreeError;
 use crate::stored_node::StoredNode;
 use ens_base::Digest;
-use ens_outside::NodeStore;
+use environment::NodeStore;
 use std::alloc::Global;
 
 /// Writes the nodes in order, each under its digest.

@@ -1,3 +1,13 @@
+//! A hash tree over a store of nodes, and the maps that such trees stand for.
+//!
+//! Maps that stand under digests: what a hash tree means, apart from any store.
+//!
+//! The form of a tree says how many children an inner node has, how many levels there are, and how
+//! nodes are encoded. A map from keys to entries stands under a digest if the tree of the map, in
+//! which each node is named by its MD5, has this digest at its root. `specs/Maps.antt` defines
+//! this, and `specs/Sixteen.antt` the form of the tree that peers keep, in each version. Each law is a function
+//! without effect.
+//!
 //! A hash tree of entries, in a store of nodes that may lie.
 //!
 //! [`Tree`] keeps a map from keys to entries as nodes, each stored under its MD5. The top record
@@ -15,6 +25,7 @@ mod encoding;
 mod entering;
 mod error;
 mod installing;
+mod laws;
 mod nodes;
 mod reading;
 mod seals;
@@ -27,6 +38,10 @@ mod walk;
 
 pub use encoding::{encode_inner, encode_segment};
 pub use error::TreeError;
+pub use laws::{nodes_are_read_again, one_map_stands};
 pub use shape::{ROOT, child, children, nibble};
 pub use stored_node::StoredNode;
 pub use tree::{Tree, TreeMark};
+pub use tree_node::{
+    InnerNode, NodeError, Position, Segment, TreeVersion, decode_inner, decode_segment,
+};

@@ -1,7 +1,7 @@
 ghost use Rattle.std.specs.Prelude.{◌≡◌, ◌-◌, ◌/◌, ◌<◌};
-ghost use Rattle.tree_maps.specs.TreeNode.{levels, IsPosition, inner_of, segment_of};
+ghost use Rattle.synctree.specs.TreeNode.{levels, IsPosition, inner_of, segment_of};
 ghost use Rattle.std.specs.Option.{is_some};
-ghost use Rattle.tree_maps.specs.Sixteen.{form_of, children_in, entries_in};
+ghost use Rattle.synctree.specs.Sixteen.{form_of, children_in, entries_in};
 ghost use Rattle.synctree.specs.Answers.{Makes};
 ghost use Rattle.synctree.specs.Outsides.{outside_does, outside_refuses};
 ghost use Rattle.synctree.specs.Plans.{Did};
@@ -11,10 +11,10 @@ use crate::error::TreeError;
 use crate::shape::ROOT;
 use crate::walk::{child_name, fetch};
 use ens_base::{Bytes, Digest};
-use ens_hashing::Hasher16;
-use ens_outside::NodeStore;
+use environment::NodeStore;
+use hash_book::Hasher16;
 use std::alloc::Global;
-use tree_maps::{NodeError, Position, TreeVersion, decode_inner, decode_segment};
+use tree_node::{NodeError, Position, TreeVersion, decode_inner, decode_segment};
 
 /// Returns the position of the parent.
 fn parent(at: Position) -> Position

@@ -1,15 +1,15 @@
 ghost use Rattle.std.specs.Prelude.{◌<◌, Some, None, get_or, IfOk};
 ghost use Rattle.std.specs.Option.{option_map};
-ghost use Rattle.tree_maps.specs.TreeNode.{AreEntries, IsPosition, inner_of, segment_of};
-ghost use Rattle.tree_maps.specs.Entries.{lookup as found};
-ghost use Rattle.tree_maps.specs.Sixteen.{children_in, entries_in};
+ghost use Rattle.synctree.specs.TreeNode.{AreEntries, IsPosition, inner_of, segment_of};
+ghost use Rattle.synctree.specs.Entries.{lookup as found};
+ghost use Rattle.synctree.specs.Sixteen.{children_in, entries_in};
 ghost use Rattle.synctree.specs.Answers.{Spells, Makes};
 
 use crate::error::TreeError;
 use crate::shape::{child_in, children};
 use ens_base::{Digest, Entry, Key, Seq};
 use std::alloc::Global;
-use tree_maps::{NodeError, Position, TreeVersion, decode_inner, decode_segment};
+use tree_node::{NodeError, Position, TreeVersion, decode_inner, decode_segment};
 
 /// Decodes an inner node, and returns its children. `Damaged` names `at` if the bytes are not an
 /// inner node of that position.

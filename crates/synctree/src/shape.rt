@@ -1,13 +1,13 @@
 ghost use Rattle.std.specs.Prelude.{◌≡◌, ◌≤◌, ◌<◌, IfOk, IfErr, length, None, Some, set, slice_get, get_or, if◌then◌else◌};
-ghost use Rattle.tree_maps.specs.TreeNode.{TreeVersion, Two, levels, IsPosition};
-ghost use Rattle.tree_maps.specs.Forms.{child as child_of};
-ghost use Rattle.tree_maps.specs.Sixteen.{form_of, children_of, mask_of, digests_of, nibble};
+ghost use Rattle.synctree.specs.TreeNode.{TreeVersion, Two, levels, IsPosition};
+ghost use Rattle.synctree.specs.Forms.{child as child_of};
+ghost use Rattle.synctree.specs.Sixteen.{form_of, children_of, mask_of, digests_of, nibble};
 ghost use Rattle.synctree.specs.declared.error.TreeError.TheVariants.{Memory};
 
 use crate::error::TreeError;
 use ens_base::{Digest, Seq};
 use std::alloc::Global;
-use tree_maps::{InnerNode, Position};
+use tree_node::{InnerNode, Position};
 
 /// The number of children of an inner node.
 pub(crate) const WIDTH: usize = 16;
@@ -19,7 +19,7 @@ pub const ROOT: Position = Position { level: 0, index: 0 };
 /// this digest belongs to the child of this number.
 pub fn nibble(digest: &Digest, level: u8) -> u8
     requires { level < 32 }
-    ensures { result ≡ Rattle.tree_maps.specs.Sixteen.nibble digest.now level }
+    ensures { result ≡ Rattle.synctree.specs.Sixteen.nibble digest.now level }
 {
     let byte = digest.0[(level / 2) as usize];
     if level % 2 == 0 {

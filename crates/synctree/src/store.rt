@@ -1,4 +1,4 @@
-ghost use Rattle.tree_maps.specs.Sixteen.{form_of};
+ghost use Rattle.synctree.specs.Sixteen.{form_of};
 ghost use Rattle.synctree.specs.Outsides.{outside_does, outside_refuses};
 ghost use Rattle.synctree.specs.Plans.{Did};
 ghost use Rattle.synctree.specs.Records.{KeptUnlessFailed};
@@ -9,10 +9,10 @@ use crate::calls::{hash, set_top, write};
 use crate::error::TreeError;
 use crate::shape::ROOT;
 use ens_base::{Digest, Seq};
-use ens_hashing::Hasher16;
-use ens_outside::NodeStore;
+use environment::NodeStore;
+use hash_book::Hasher16;
 use std::alloc::Global;
-use tree_maps::{InnerNode, TreeVersion};
+use tree_node::{InnerNode, TreeVersion};
 
 /// Writes a node under its MD5, and returns the digest.
 pub(crate) fn store<N: NodeStore, H: Hasher16>(

@@ -1,9 +1,9 @@
 ghost use Rattle.std.specs.Prelude.{◌≡◌, ◌⊎◌, ℕ, List, [], Option, None, Some, Ok, Err, IfOk, IfErr, OnOk, OnErr};
 ghost use Rattle.std.specs.Option.{IsSomeAnd};
-ghost use Rattle.tree_maps.specs.Maps.{Stands};
-ghost use Rattle.tree_maps.specs.Sixteen.{form_of};
-ghost use Rattle.ens_outside.specs.Stores.{Read, Top};
-ghost use Rattle.ens_outside.specs.Told.{StaysTold};
+ghost use Rattle.synctree.specs.Maps.{Stands};
+ghost use Rattle.synctree.specs.Sixteen.{form_of};
+ghost use Rattle.environment.specs.Stores.{Read, Top};
+ghost use Rattle.environment.specs.Told.{StaysTold};
 ghost use Rattle.synctree.specs.Halves.{NodesDid};
 ghost use Rattle.synctree.specs.Installs.{store_does, store_refuses, install_plan};
 ghost use Rattle.synctree.specs.Outsides.{outside_does, outside_refuses};
@@ -13,7 +13,7 @@ ghost use Rattle.synctree.specs.Trees.{get_plan, insert_plan, fresh_plan};
 ghost use Rattle.synctree.specs.Meanings.{Finds, Opens, Freshens, Reopens, Enters, Inserts};
 ghost use Rattle.synctree.specs.Nodes.{node_plan, Reads};
 ghost use Rattle.synctree.specs.Shapes.{shape_plan, Tells};
-ghost use Rattle.tree_maps.specs.TreeNode.{IsPosition};
+ghost use Rattle.synctree.specs.TreeNode.{IsPosition};
 
 use crate::calls;
 use crate::entering::enter_from_top;
@@ -26,10 +26,10 @@ use crate::stored_node::StoredNode;
 use crate::versions::version_from_top;
 use crate::walk::find_from_top;
 use ens_base::{Bytes, Digest, Entry, Key, Refused};
-use ens_hashing::Hasher16;
-use ens_outside::NodeStore;
+use environment::NodeStore;
+use hash_book::Hasher16;
 use std::alloc::Global;
-use tree_maps::{Position, TreeVersion};
+use tree_node::{Position, TreeVersion};
 
 /// What remains of a tree when its store is taken out: its version, and the digest of its root, if it has
 /// one.
@@ -83,7 +83,8 @@ impl<N: NodeStore> Tree<N> {
         hasher: &mut H,
     ) -> Result<Tree<N>, Refused<N, TreeError>>
         ensures version_is { IfOk result (λ tree. tree.version ≡ version) }
-        ensures did { Freshens (λ r nodes. Did (outside_does N.may_answer N.top_record N.fault_count H.kept H.clashes H.fulls) (outside_refuses N.may_refuse N.top_record N.fault_count H.kept H.clashes H.fulls)
+        ensures did { Freshens (λ r nodes. Did (outside_does N.may_answer N.top_record N.fault_count H.kept
+            H.clashes H.fulls) (outside_refuses N.may_refuse N.top_record N.fault_count H.kept H.clashes H.fulls)
             (fresh_plan (form_of version)) (store, hasher.old) r (nodes, hasher.new)) result }
         ensures map { IfOk result (λ tree. (digest : List ℕ) → tree.top ≡ Some digest → Stands (form_of version) digest []) }
         ensures kept { IfErr result (λ refused. (refused.error ≡ TreeError.Failed) ⊎ StaysTold (N.top_record store) (N.top_record refused.held)) }
@@ -135,7 +136,8 @@ impl<N: NodeStore> Tree<N> {
         version: TreeVersion,
         hasher: &mut H,
     ) -> Result<(), TreeError>
-        ensures did { Enters (λ r. Did (outside_does N.may_answer N.top_record N.fault_count H.kept H.clashes H.fulls) (outside_refuses N.may_refuse N.top_record N.fault_count H.kept H.clashes H.fulls)
+        ensures did { Enters (λ r. Did (outside_does N.may_answer N.top_record N.fault_count H.kept H.clashes
+            H.fulls) (outside_refuses N.may_refuse N.top_record N.fault_count H.kept H.clashes H.fulls)
             (fresh_plan (form_of version)) (self.old.store, hasher.old) r (self.new.store, hasher.new)) self.old.top result self.new.top }
         ensures version_is { OnOk result (self.new.version ≡ version) }
         ensures unchanged { OnErr result (self.new.version ≡ self.old.version) }
@@ -174,7 +176,9 @@ impl<N: NodeStore> Tree<N> {
     ) -> Result<TreeVersion, TreeError>
         ensures did { Did (outside_does N.may_answer N.top_record N.fault_count H.kept H.clashes H.fulls) (outside_refuses N.may_refuse N.top_record N.fault_count H.kept H.clashes H.fulls)
             (shape_plan self.old.top) (self.old.store, hasher.old) result (self.new.store, hasher.new) }
-        ensures tells { IfOk result (λ version. Tells (outside_does N.may_answer N.top_record N.fault_count H.kept H.clashes H.fulls) self.old.top (self.old.store, hasher.old) version (self.new.store, hasher.new)) }
+        ensures tells { IfOk result (λ version. Tells
+            (outside_does N.may_answer N.top_record N.fault_count H.kept H.clashes H.fulls) self.old.top
+            (self.old.store, hasher.old) version (self.new.store, hasher.new)) }
         ensures version_is { self.new.version ≡ self.old.version }
         ensures top { self.new.top ≡ self.old.top }
     {
@@ -226,7 +230,9 @@ impl<N: NodeStore> Tree<N> {
     ) -> Result<Option<Entry>, TreeError>
         ensures did { Did (outside_does N.may_answer N.top_record N.fault_count H.kept H.clashes H.fulls) (outside_refuses N.may_refuse N.top_record N.fault_count H.kept H.clashes H.fulls)
             (get_plan (form_of self.old.version) self.old.top key.now) (self.old.store, hasher.old) result (self.new.store, hasher.new) }
-        ensures finds { IfOk result (λ o. Finds (outside_does N.may_answer N.top_record N.fault_count H.kept H.clashes H.fulls) (form_of self.old.version) self.old.top key.now (self.old.store, hasher.old) o (self.new.store, hasher.new)) }
+        ensures finds { IfOk result (λ o. Finds (outside_does N.may_answer N.top_record N.fault_count H.kept
+            H.clashes H.fulls) (form_of self.old.version) self.old.top key.now (self.old.store, hasher.old) o
+            (self.new.store, hasher.new)) }
         ensures version_is { self.new.version ≡ self.old.version }
         ensures top { self.new.top ≡ self.old.top }
     {
@@ -246,7 +252,9 @@ impl<N: NodeStore> Tree<N> {
         requires { IsPosition self.old.version at }
         ensures did { Did (outside_does N.may_answer N.top_record N.fault_count H.kept H.clashes H.fulls) (outside_refuses N.may_refuse N.top_record N.fault_count H.kept H.clashes H.fulls)
             (node_plan (form_of self.old.version) self.old.top at) (self.old.store, hasher.old) result (self.new.store, hasher.new) }
-        ensures reads { IfOk result (λ o. Reads (outside_does N.may_answer N.top_record N.fault_count H.kept H.clashes H.fulls) (form_of self.old.version) self.old.top at (self.old.store, hasher.old) o (self.new.store, hasher.new)) }
+        ensures reads { IfOk result (λ o. Reads (outside_does N.may_answer N.top_record N.fault_count H.kept
+            H.clashes H.fulls) (form_of self.old.version) self.old.top at (self.old.store, hasher.old) o
+            (self.new.store, hasher.new)) }
         ensures version_is { self.new.version ≡ self.old.version }
         ensures top { self.new.top ≡ self.old.top }
     {
@@ -267,10 +275,16 @@ impl<N: NodeStore> Tree<N> {
         hasher: &mut H,
         entry: &Entry,
     ) -> Result<(), TreeError>
-        ensures did { Enters (λ r. Did (outside_does N.may_answer N.top_record N.fault_count H.kept H.clashes H.fulls) (outside_refuses N.may_refuse N.top_record N.fault_count H.kept H.clashes H.fulls)
+        ensures did { Enters (λ r. Did (outside_does N.may_answer N.top_record N.fault_count H.kept H.clashes
+            H.fulls) (outside_refuses N.may_refuse N.top_record N.fault_count H.kept H.clashes H.fulls)
             (insert_plan (form_of self.old.version) self.old.top entry.now) (self.old.store, hasher.old) r (self.new.store, hasher.new)) self.old.top result self.new.top }
         ensures version_is { self.new.version ≡ self.old.version }
-        ensures stands { OnOk result (IsSomeAnd self.new.top (λ new. Inserts (outside_does N.may_answer N.top_record N.fault_count H.kept H.clashes H.fulls) (form_of self.old.version) self.old.top entry.now (self.old.store, hasher.old) new (self.new.store, hasher.new))) }
+        ensures stands { OnOk result (IsSomeAnd self.new.top
+            (λ new. Inserts (outside_does N.may_answer N.top_record N.fault_count H.kept H.clashes H.fulls)
+            (form_of self.old.version) self.old.top entry.now (self.old.store, hasher.old) new (
+              self.new.store,
+              hasher.new,
+            ))) }
         ensures kept { KeptUnlessFailed (N.top_record self.old.store) (N.top_record self.new.store) result }
     {
         let new = enter_from_top(

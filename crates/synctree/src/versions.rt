@@ -1,4 +1,4 @@
-ghost use Rattle.tree_maps.specs.Forms.{root};
+ghost use Rattle.synctree.specs.Forms.{root};
 ghost use Rattle.synctree.specs.Answers.{Makes, Spells};
 ghost use Rattle.synctree.specs.Outsides.{outside_does, outside_refuses};
 ghost use Rattle.synctree.specs.Plans.{Did};
@@ -9,10 +9,10 @@ use crate::nodes::is_inner;
 use crate::shape::ROOT;
 use crate::walk::fetch;
 use ens_base::Digest;
-use ens_hashing::Hasher16;
-use ens_outside::NodeStore;
+use environment::NodeStore;
+use hash_book::Hasher16;
 use std::alloc::Global;
-use tree_maps::TreeVersion;
+use tree_node::TreeVersion;
 
 /// Returns the version of the tree that the bytes encode the root of, or `None` if they encode none.
 /// Fails only when out of memory.

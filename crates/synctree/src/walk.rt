@@ -1,8 +1,8 @@
 ghost use Rattle.std.specs.Prelude.{◌≡◌, ◌<◌, Option, None, Some, IfOk};
 ghost use Rattle.md5.specs.Md5.{md5};
-ghost use Rattle.tree_maps.specs.TreeNode.{AreEntries, IsPosition};
-ghost use Rattle.tree_maps.specs.Forms.{IsPlace};
-ghost use Rattle.tree_maps.specs.Sixteen.{form_of};
+ghost use Rattle.synctree.specs.TreeNode.{AreEntries, IsPosition};
+ghost use Rattle.synctree.specs.Forms.{IsPlace};
+ghost use Rattle.synctree.specs.Sixteen.{form_of};
 ghost use Rattle.synctree.specs.Outsides.{outside_does, outside_refuses};
 ghost use Rattle.synctree.specs.Plans.{Did};
 ghost use Rattle.synctree.specs.Walks.{fetch as fetch_plan, open_node, find as find_plan};
@@ -14,10 +14,10 @@ use crate::error::TreeError;
 use crate::reading::{inner, inner_child, lookup, segment};
 use crate::shape::{ROOT, child, nibble};
 use ens_base::{Bytes, Digest, Entry, Key, Seq};
-use ens_hashing::Hasher16;
-use ens_outside::NodeStore;
+use environment::NodeStore;
+use hash_book::Hasher16;
 use std::alloc::Global;
-use tree_maps::{Position, TreeVersion};
+use tree_node::{Position, TreeVersion};
 
 /// Returns the bytes stored under the digest, which is their MD5. `Damaged` names `at` if there are
 /// no such bytes.

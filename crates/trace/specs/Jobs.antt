@@ -3,7 +3,7 @@ use Rattle.std.specs.Prelude.{◌≡◌, ◌⊎◌, ℕ, Bool, List, [], ◌∷�
 use Rattle.ens_base.specs.declared.status.Status.{Status}
 use Rattle.world_spec.specs.Lines.{run_of_schedule}
 use Rattle.schedule_input.specs.Endings.{IsBadLine, IsLineLimit, IsUnsound}
-use Rattle.schedule_premise.specs.Premise.{first_unsound}
+use Rattle.schedule_input.specs.Premise.{first_unsound}
 use Rattle.schedule_text.specs.Reading.{schedule_of}
 use Rattle.schedule_text.specs.declared.schedule.Schedule.{Schedule}
 use Rattle.world_spec.specs.Messages.{IsPastMessages, IsWithinMessages}

@@ -2,11 +2,11 @@ ghost use Rattle.std.specs.Prelude.{◌≡◌, ◌≢◌, ℕ, List, Option, Ok,
 ghost use Rattle.std.specs.Io.KnownBytes.{Appends, IsAtEnd};
 ghost use Rattle.ens_base.specs.Causes.{Rose};
 ghost use Rattle.ens_base.specs.declared.status.Status.{Status};
-ghost use Rattle.ens_outside.specs.Written.{AppendsFront};
+ghost use Rattle.environment.specs.Written.{AppendsPrefix};
 ghost use Rattle.world_spec.specs.Lines.{run_of_schedule};
 ghost use Rattle.world_spec.specs.Messages.{IsPastMessages, IsWithinMessages};
 ghost use Rattle.schedule_input.specs.Reading.{WasCutOff, WasTakenTo};
-ghost use Rattle.schedule_premise.specs.Premise.{first_unsound};
+ghost use Rattle.schedule_input.specs.Premise.{first_unsound};
 ghost use Rattle.schedule_text.specs.Reading.{schedule_of};
 ghost use Rattle.schedule_text.specs.Spelling.{IsSchedule};
 ghost use Rattle.trace.specs.Jobs.{Traces};
@@ -14,8 +14,8 @@ ghost use Rattle.trace.specs.Text.{trace_text};
 
 use crate::text::write_trace;
 use ens_base::Status;
-use ens_hashing::PlainHasher;
-use ens_outside::{Sink, Source, finish};
+use environment::{Sink, Source, finish};
+use hash_book::PlainHasher;
 use schedule_input::{Ending, read_schedule};
 use schedule_text::Schedule;
 use std::alloc::{AllocError, Global};
@@ -31,7 +31,12 @@ fn run_text<R: Threads + Sync>(
     schedule: &Schedule,
 ) -> Result<Option<String>, AllocError>
     requires { IsSchedule schedule.now }
-    ensures { IfOk result (λ o. MatchOption o (IsPastMessages (run_of_schedule schedule.now.form schedule.now.peers schedule.now.view schedule.now.events)) (λ text. IsWithinMessages (run_of_schedule schedule.now.form schedule.now.peers schedule.now.view schedule.now.events) × (string_bytes text ≡ trace_text names (run_of_schedule schedule.now.form schedule.now.peers schedule.now.view schedule.now.events).mail.sent))) }
+    ensures { IfOk result (λ o. MatchOption o
+        (IsPastMessages (run_of_schedule schedule.now.form schedule.now.peers schedule.now.view
+        schedule.now.events)) (λ text. IsWithinMessages
+        (run_of_schedule schedule.now.form schedule.now.peers schedule.now.view schedule.now.events)
+        × (string_bytes text ≡ trace_text names
+        (run_of_schedule schedule.now.form schedule.now.peers schedule.now.view schedule.now.events).mail.sent))) }
 {
     let mut hasher = PlainHasher;
     match World::run(rt, alloc, schedule, &mut hasher) {
@@ -117,7 +122,11 @@ pub fn trace<S: Source, O: Sink, R: Threads + Sync>(
     output: &mut O,
 ) -> Status
     ensures printed { result ≢ Status.WriteFault → (text : List ℕ) × Traces names (S.left input.old) result text × Appends (O.written output.old) (O.written output.new) text }
-    ensures front { result ≡ Status.WriteFault → (status : Status) × (text : List ℕ) × Traces names (S.left input.old) status text × (status ≡ Status.Done → IsAtEnd (S.left input.new)) × (status ≡ Status.ReadFault → Rose (S.fault_count input.old) (S.fault_count input.new) × WasCutOff (S.left input.old) (S.left input.new)) × AppendsFront (O.written output.old) (O.written output.new) text }
+    ensures prefix { result ≡ Status.WriteFault → (status : Status) × (text : List ℕ)
+        × Traces names (S.left input.old) status text × (status ≡ Status.Done → IsAtEnd (S.left input.new))
+        × (status ≡ Status.ReadFault → Rose (S.fault_count input.old) (S.fault_count input.new)
+        × WasCutOff (S.left input.old) (S.left input.new))
+        × AppendsPrefix (O.written output.old) (O.written output.new) text }
     ensures end { result ≡ Status.Done → IsAtEnd (S.left input.new) }
     ensures read { result ≡ Status.ReadFault → Rose (S.fault_count input.old) (S.fault_count input.new) }
     // The input failed before the bytes that it gave decided anything.

@@ -11,7 +11,7 @@ mod text;
 mod words;
 
 use ens_base::Status;
-use ens_outside::{ReaderSource, WriterSink, finish};
+use environment::{ReaderSource, WriterSink, finish};
 use job::trace;
 use std::env;
 use std::io::ErrorKind;

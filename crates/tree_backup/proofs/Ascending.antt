@@ -7,15 +7,15 @@ use Rattle.std.proofs.lemmas.List.{map-append}
 use Rattle.std.proofs.lemmas.List.Elements.{filter_map-append}
 use Rattle.ens_base.specs.Lists.{bytes_cmp}
 use Rattle.ens_base.specs.declared.entry.Entry.{Entry}
-use Rattle.ens_object.specs.declared.object.Object.{Object}
-use Rattle.ens_fields.specs.Entries.{IsEntry}
-use Rattle.tree_maps.specs.Entries.{IsBelowAll, Ascends}
-use Rattle.tree_maps.proofs.Orders.{less_back, less_trans, cmp_equal}
-use Rattle.tree_maps.proofs.Slices.{drop_at}
-use Rattle.tree_maps.proofs.TreeNode.{less_above}
+use Rattle.stored_formats.specs.declared.object.Object.{Object}
+use Rattle.fields.specs.Entries.{IsEntry}
+use Rattle.synctree.specs.Entries.{IsBelowAll, Ascends}
+use Rattle.synctree.proofs.Orders.{less_back, less_trans, cmp_equal}
+use Rattle.synctree.proofs.Slices.{drop_at}
+use Rattle.synctree.proofs.TreeNode.{less_above}
 use Rattle.tree_node.specs.Entries.{is_less, is_above, AreAbove}
 use Rattle.tree_node.specs.Repeats.{AreListed}
-use Rattle.tree_verify.specs.Sorted.{stepped, place, sorted}
+use Rattle.tree_repair.specs.Sorted.{stepped, place, sorted}
 use Rattle.tree_backup.specs.declared.item.Item.{Item}
 use Rattle.tree_backup.specs.Checks.{names, matches}
 use Rattle.tree_backup.specs.Items.{IsItem, IsNext, entries_of, objects_of, KeysAbove}

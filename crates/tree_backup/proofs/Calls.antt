@@ -3,12 +3,12 @@ use Rattle.std.proofs.Common.{◌≡◌, ℕ, ◌+◌, ◌<◌, ◌≤◌, List,
 use Rattle.std.specs.Prelude.{IfOk, IfErr, OnOk, IsErrOf}
 use Rattle.ens_base.specs.Causes.{Rose}
 use Rattle.ens_base.specs.declared.entry.Entry.{Entry}
-use Rattle.ens_object.specs.Objects.{object_spelling}
-use Rattle.ens_object.specs.declared.object.Object.{Object}
-use Rattle.ens_outside.specs.Stores.{BackendCall, BackendAnswer, Get, Put, StoreCounts}
-use Rattle.ens_outside.specs.declared.errors.StoreError.{StoreError}
-use Rattle.ens_outside.specs.declared.errors.StoreError.TheVariants.{Failed, Memory}
-use Rattle.tree_maps.proofs.Slices.{drop_at, drop_all}
+use Rattle.stored_formats.specs.Objects.{object_spelling}
+use Rattle.stored_formats.specs.declared.object.Object.{Object}
+use Rattle.environment.specs.Stores.{BackendCall, BackendAnswer, Get, Put, StoreCounts}
+use Rattle.environment.specs.declared.errors.StoreError.{StoreError}
+use Rattle.environment.specs.declared.errors.StoreError.TheVariants.{Failed, Memory}
+use Rattle.synctree.proofs.Slices.{drop_at, drop_all}
 use Rattle.tree_backup.specs.declared.item.Item.{Item}
 use Rattle.tree_backup.specs.Items.{entries_of}
 use Rattle.tree_backup.specs.Stores.{decoded, item_with, fetched, Fetches, FetchStops, DidFetchOne, Puts, PutStops, DidPutOne}

@@ -3,12 +3,12 @@ use Rattle.std.proofs.Common.{◌≡◌, ◌≤◌, ℕ, List, [], ◌∷◌, Op
 use Rattle.ens_base.specs.Causes.{Rose}
 use Rattle.ens_base.specs.declared.entry.Entry.{Entry}
 use Rattle.ens_base.proofs.Causes.{rose_later}
-use Rattle.ens_hashing.specs.Hashing.{Book}
-use Rattle.ens_outside.specs.Stores.{NodeCall, NodeAnswer}
-use Rattle.ens_outside.specs.declared.errors.StoreError.{StoreError}
-use Rattle.ens_outside.specs.declared.errors.StoreError.TheVariants as stores
+use Rattle.hash_book.specs.Hashing.{Book}
+use Rattle.environment.specs.Stores.{NodeCall, NodeAnswer}
+use Rattle.environment.specs.declared.errors.StoreError.{StoreError}
+use Rattle.environment.specs.declared.errors.StoreError.TheVariants as stores
 use Rattle.synctree.specs.Meanings.{Enters}
-use Rattle.tree_maps.specs.Sixteen.{form_of}
+use Rattle.synctree.specs.Sixteen.{form_of}
 use Rattle.tree_node.specs.declared.version.TreeVersion.TheVariants.{Two}
 use Rattle.synctree.specs.Outsides.{outside_does, outside_refuses}
 use Rattle.synctree.specs.Installs.{write_all, install_plan}
@@ -17,13 +17,13 @@ use Rattle.synctree.specs.Walks.{set_top}
 use Rattle.synctree.specs.declared.error.TreeError.{TreeError}
 use Rattle.synctree.specs.declared.error.TreeError.TheVariants as trees
 use Rattle.synctree.specs.declared.stored_node.StoredNode.{StoredNode}
-use Rattle.tree_maps.specs.Forms.{Form}
+use Rattle.synctree.specs.Forms.{Form}
 use Rattle.tree_repair.specs.Builds.{build_nodes, build_of}
 use Rattle.tree_repair.specs.Rebuilds.{hash_all, rebuild_plan}
-use Rattle.tree_verify.specs.Levels.{scan_plan}
+use Rattle.tree_repair.specs.Levels.{scan_plan}
 use Rattle.tree_node.specs.declared.body.Scan.{Scan}
-use Rattle.tree_verify.proofs.Walking.{scan_gives}
-use Rattle.tree_verify.proofs.Unbroken.{IsUnbroken, then_unbroken, ends_well, scan_unbroken}
+use Rattle.tree_repair.proofs.Walking.{scan_gives}
+use Rattle.tree_repair.proofs.Unbroken.{IsUnbroken, then_unbroken, ends_well, scan_unbroken}
 use Rattle.tree_backup.specs.Order.{Rises}
 use Rattle.tree_backup.proofs.Ascending.{rises_sorted}
 use Rattle.tree_backup.specs.Causes.{of_tree, of_store, IsFromOutside}

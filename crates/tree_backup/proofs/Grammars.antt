@@ -6,22 +6,22 @@ use Rattle.byteorder.specs.Endian.{big_bytes}
 use Rattle.ens_base.specs.Limits.{IsBytes, IsVersion, IsKey}
 use Rattle.ens_base.specs.Results.{◌>>=◌}
 use Rattle.ens_base.specs.declared.entry.Entry.{Entry}
-use Rattle.ens_fields.specs.Entries.{IsEntry, entry_spelling}
-use Rattle.ens_fields.specs.Grammar.{IsGrammar}
-use Rattle.ens_fields.specs.Numbers.{IsRun, number_at, run_at}
-use Rattle.ens_fields.specs.Strings.{key_spelling}
-use Rattle.ens_fields.specs.Versions.{version_spelling}
-use Rattle.ens_fields.specs.declared.fault.Fault.{Fault}
-use Rattle.ens_fields.specs.declared.fault.Fault.TheVariants as faults
-use Rattle.ens_fields.specs.declared.field_error.FieldError.{FieldError}
-use Rattle.ens_fields.specs.declared.field_error.FieldError.TheVariants as fields
-use Rattle.ens_fields.proofs.FieldLaws.{key_grammar}
-use Rattle.ens_fields.proofs.GrammarLaws.{Reader, valid_as, spelled_as, field_then, field_last, tested, checked, nothing, right, ok_is, whole_found, whole_again}
-use Rattle.ens_fields.proofs.NumberLaws.{byte_grammar, u16_grammar, u32_grammar, run_grammar}
-use Rattle.ens_object.proofs.ObjectLaws.{object_grammar}
-use Rattle.ens_object.specs.Objects.{IsObject, object_spelling}
-use Rattle.ens_object.specs.declared.error.ObjectRule.{ObjectRule}
-use Rattle.ens_object.specs.declared.object.Object.{Object}
+use Rattle.fields.specs.Entries.{IsEntry, entry_spelling}
+use Rattle.fields.specs.Grammar.{IsGrammar}
+use Rattle.fields.specs.Numbers.{IsRun, number_at, run_at}
+use Rattle.fields.specs.Strings.{key_spelling}
+use Rattle.fields.specs.Versions.{version_spelling}
+use Rattle.fields.specs.declared.fault.Fault.{Fault}
+use Rattle.fields.specs.declared.fault.Fault.TheVariants as faults
+use Rattle.fields.specs.declared.field_error.FieldError.{FieldError}
+use Rattle.fields.specs.declared.field_error.FieldError.TheVariants as fields
+use Rattle.fields.proofs.FieldLaws.{key_grammar}
+use Rattle.fields.proofs.GrammarLaws.{Reader, valid_as, spelled_as, field_then, field_last, tested, checked, nothing, right, ok_is, whole_found, whole_again}
+use Rattle.fields.proofs.NumberLaws.{byte_grammar, u16_grammar, u32_grammar, run_grammar}
+use Rattle.stored_formats.proofs.ObjectLaws.{object_grammar}
+use Rattle.stored_formats.specs.Objects.{IsObject, object_spelling}
+use Rattle.stored_formats.specs.declared.object_error.ObjectRule.{ObjectRule}
+use Rattle.stored_formats.specs.declared.object.Object.{Object}
 use Rattle.tree_node.specs.Entries.{is_above}
 use Rattle.tree_node.proofs.RepeatLaws.{list_grammar}
 use Rattle.tree_node.proofs.EntryLaws.{rest_grammar}

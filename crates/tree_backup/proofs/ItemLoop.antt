@@ -2,45 +2,45 @@
 use Rattle.std.proofs.Common.{◌≡◌, ℕ, suc, ◌-◌, ◌+◌, ◌≤◌, ◌<◌, List, [], ◌∷◌, ◌++◌, length, Some, Result, Ok, Err, refl, sym, ap, ◌∙◌, append_assoc, append-nil, arith, length-append}
 use Rattle.std.specs.Prelude.{slice_get}
 use Rattle.ens_base.specs.Results.{◌>>=◌}
-use Rattle.ens_fields.proofs.GrammarLaws.{Reader}
+use Rattle.fields.proofs.GrammarLaws.{Reader}
 use Rattle.tree_node.specs.Repeats.{list_at}
-use Rattle.tree_node.proofs.RepeatLaws.{with_front}
+use Rattle.tree_node.proofs.RepeatLaws.{with_prefix}
 use Rattle.tree_backup.specs.declared.error.BackupError.{BackupError}
 use Rattle.tree_backup.specs.declared.error.BackupError.TheVariants.{Memory}
 use Rattle.tree_backup.specs.declared.item.Item.{Item}
 use Rattle.tree_backup.specs.Readings.{key_or_none, last_key, Fails}
 
-regroup : {A : Type 0} (front : List A) (x : A) (read : Result (List A × ℕ) BackupError) → with_front front (read >>= λ y. Ok (x ∷ y.0, y.1)) ≡ with_front (front ++ x ∷ []) read
-regroup front x (Ok y) = ap (λ xs. Ok (xs, y.1)) (sym (append_assoc front (x ∷ []) y.0))
-regroup front x (Err e) = refl
+regroup : {A : Type 0} (prefix : List A) (x : A) (read : Result (List A × ℕ) BackupError) → with_prefix prefix (read >>= λ y. Ok (x ∷ y.0, y.1)) ≡ with_prefix (prefix ++ x ∷ []) read
+regroup prefix x (Ok y) = ap (λ xs. Ok (xs, y.1)) (sym (append_assoc prefix (x ∷ []) y.0))
+regroup prefix x (Err e) = refl
 
-pub goes_on : {B A : Type 0} (item : B → Reader A BackupError) (after : A → B) (count i : ℕ) (b : B) (bytes : List ℕ) (place : ℕ) (front : List A) (x : A) (next : ℕ) (total : Result (List A × ℕ) BackupError)
-    → i < count → item b bytes place ≡ Ok (x, next) → with_front front (list_at item after (count - i) b bytes place) ≡ total → with_front (front ++ x ∷ []) (list_at item after (count - (i + 1)) (after x) bytes next) ≡ total
+pub goes_on : {B A : Type 0} (item : B → Reader A BackupError) (after : A → B) (count i : ℕ) (b : B) (bytes : List ℕ) (place : ℕ) (prefix : List A) (x : A) (next : ℕ) (total : Result (List A × ℕ) BackupError)
+    → i < count → item b bytes place ≡ Ok (x, next) → with_prefix prefix (list_at item after (count - i) b bytes place) ≡ total → with_prefix (prefix ++ x ∷ []) (list_at item after (count - (i + 1)) (after x) bytes next) ≡ total
 unfolding list_at
-goes_on item after count i b bytes place front x next total lt h so_far =
+goes_on item after count i b bytes place prefix x next total lt h so_far =
     let k : count - i ≡ suc (count - (i + 1)) = omega arith in
-    let one : with_front front (list_at item after (count - i) b bytes place) ≡ with_front (front ++ x ∷ []) (list_at item after (count - (i + 1)) (after x) bytes next) = rw (k, h) (regroup front x (list_at item after (count - (i + 1)) (after x) bytes next)) in
+    let one : with_prefix prefix (list_at item after (count - i) b bytes place) ≡ with_prefix (prefix ++ x ∷ []) (list_at item after (count - (i + 1)) (after x) bytes next) = rw (k, h) (regroup prefix x (list_at item after (count - (i + 1)) (after x) bytes next)) in
     sym one ∙ so_far
 
-failed_on : {B A : Type 0} (e : BackupError) (item : B → Reader A BackupError) (after : A → B) (count i : ℕ) (b : B) (bytes : List ℕ) (place : ℕ) (front : List A) (total : Result (List A × ℕ) BackupError)
-    → i < count → item b bytes place ≡ Err e → with_front front (list_at item after (count - i) b bytes place) ≡ total → total ≡ Err e
+failed_on : {B A : Type 0} (e : BackupError) (item : B → Reader A BackupError) (after : A → B) (count i : ℕ) (b : B) (bytes : List ℕ) (place : ℕ) (prefix : List A) (total : Result (List A × ℕ) BackupError)
+    → i < count → item b bytes place ≡ Err e → with_prefix prefix (list_at item after (count - i) b bytes place) ≡ total → total ≡ Err e
 unfolding list_at
-failed_on e item after count i b bytes place front total lt h so_far =
+failed_on e item after count i b bytes place prefix total lt h so_far =
     let k : count - i ≡ suc (count - (i + 1)) = omega arith in
-    let one : with_front front (list_at item after (count - i) b bytes place) ≡ Err e = rw (k, h) refl in
+    let one : with_prefix prefix (list_at item after (count - i) b bytes place) ≡ Err e = rw (k, h) refl in
     sym so_far ∙ one
 
-pub stops : {B A : Type 0} (e : BackupError) (item : B → Reader A BackupError) (after : A → B) (count i : ℕ) (b : B) (bytes : List ℕ) (place : ℕ) (front : List A) (total : Result (List A × ℕ) BackupError)
-    → i < count → Fails e (item b bytes place) → with_front front (list_at item after (count - i) b bytes place) ≡ total → Fails e total
-stops Memory item after count i b bytes place front total lt h so_far = tt
-stops e item after count i b bytes place front total lt h so_far = failed_on e item after count i b bytes place front total lt h so_far
+pub stops : {B A : Type 0} (e : BackupError) (item : B → Reader A BackupError) (after : A → B) (count i : ℕ) (b : B) (bytes : List ℕ) (place : ℕ) (prefix : List A) (total : Result (List A × ℕ) BackupError)
+    → i < count → Fails e (item b bytes place) → with_prefix prefix (list_at item after (count - i) b bytes place) ≡ total → Fails e total
+stops Memory item after count i b bytes place prefix total lt h so_far = tt
+stops e item after count i b bytes place prefix total lt h so_far = failed_on e item after count i b bytes place prefix total lt h so_far
 
-pub is_done : {B A : Type 0} (item : B → Reader A BackupError) (after : A → B) (count i : ℕ) (b : B) (bytes : List ℕ) (place : ℕ) (front : List A) (total : Result (List A × ℕ) BackupError)
-    → count ≤ i → with_front front (list_at item after (count - i) b bytes place) ≡ total → total ≡ Ok (front, place)
+pub is_done : {B A : Type 0} (item : B → Reader A BackupError) (after : A → B) (count i : ℕ) (b : B) (bytes : List ℕ) (place : ℕ) (prefix : List A) (total : Result (List A × ℕ) BackupError)
+    → count ≤ i → with_prefix prefix (list_at item after (count - i) b bytes place) ≡ total → total ≡ Ok (prefix, place)
 unfolding list_at
-is_done item after count i b bytes place front total le so_far =
+is_done item after count i b bytes place prefix total le so_far =
     let k : count - i ≡ 0 = omega arith in
-    let one : with_front front (list_at item after (count - i) b bytes place) ≡ Ok (front, place) = rw k (ap (λ xs. Ok (xs, place)) (append-nil front)) in
+    let one : with_prefix prefix (list_at item after (count - i) b bytes place) ≡ Ok (prefix, place) = rw k (ap (λ xs. Ok (xs, place)) (append-nil prefix)) in
     sym so_far ∙ one
 
 slice_get-last : (xs : List Item) (x : Item) → slice_get (xs ++ x ∷ []) (length xs) ≡ Some x

@@ -6,12 +6,12 @@ use Rattle.ens_base.proofs.Lists.{bytes_same, bytes_itself}
 use Rattle.ens_base.specs.Lists.{same_bytes}
 use Rattle.ens_base.specs.Results.{◌>>=◌}
 use Rattle.ens_base.specs.declared.entry.Entry.{Entry}
-use Rattle.ens_fields.proofs.GrammarLaws.{ok_is}
-use Rattle.ens_hashing.specs.declared.error.HashError.{HashError}
-use Rattle.ens_hashing.specs.declared.error.HashError.TheVariants as hashes
-use Rattle.ens_object.specs.declared.object.Object.{Object}
-use Rattle.tree_maps.proofs.Names.{md5_run}
-use Rattle.tree_maps.specs.Entries.{IsMap}
+use Rattle.fields.proofs.GrammarLaws.{ok_is}
+use Rattle.hash_book.specs.declared.error.HashError.{HashError}
+use Rattle.hash_book.specs.declared.error.HashError.TheVariants as hashes
+use Rattle.stored_formats.specs.declared.object.Object.{Object}
+use Rattle.synctree.proofs.Names.{md5_run}
+use Rattle.synctree.specs.Entries.{IsMap}
 use Rattle.tree_node.specs.Entries.{AreAbove}
 use Rattle.tree_repair.proofs.Lists.{length_of_map}
 use Rattle.tree_backup.specs.Causes.{of_hash}

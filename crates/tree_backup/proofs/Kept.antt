@@ -1,11 +1,11 @@
 -- What a backend has after puts.
 use Rattle.std.proofs.Common.{◌≡◌, ℕ, List, [], ◌∷◌, map, Option, Some, ap, ◌∙◌}
 use Rattle.std.specs.List.{AllByRecursion}
-use Rattle.ens_object.specs.Objects.{object_spelling}
-use Rattle.ens_object.specs.declared.object.Object.{Object}
-use Rattle.ens_outside.specs.Stores.{BackendCall, BackendAnswer}
-use Rattle.tree_maps.proofs.Orders.{less_not_same}
-use Rattle.tree_maps.proofs.TreeNode.{less_above}
+use Rattle.stored_formats.specs.Objects.{object_spelling}
+use Rattle.stored_formats.specs.declared.object.Object.{Object}
+use Rattle.environment.specs.Stores.{BackendCall, BackendAnswer}
+use Rattle.synctree.proofs.Orders.{less_not_same}
+use Rattle.synctree.proofs.TreeNode.{less_above}
 use Rattle.tree_backup.specs.Items.{KeysAbove}
 use Rattle.tree_backup.specs.Stores.{Puts, TellsPuts}
 use Rattle.tree_backup.proofs.Ascending.{lower}

@@ -4,13 +4,13 @@ use Rattle.std.specs.List.{AllByRecursion}
 use Rattle.ens_base.proofs.Lists.{bytes_same}
 use Rattle.ens_base.specs.Lists.{same_bytes}
 use Rattle.ens_base.specs.declared.entry.Entry.{Entry}
-use Rattle.ens_object.specs.Objects.{object_spelling}
-use Rattle.ens_object.specs.declared.object.Object.{Object}
-use Rattle.kept_objects.specs.Kept.{is_named}
+use Rattle.stored_formats.specs.Objects.{object_spelling}
+use Rattle.stored_formats.specs.declared.object.Object.{Object}
+use Rattle.object_commands.specs.Kept.{is_named}
 use Rattle.md5.specs.Md5.{md5}
-use Rattle.tree_maps.proofs.Slices.{drop_at}
+use Rattle.synctree.proofs.Slices.{drop_at}
 use Rattle.tree_repair.proofs.Lists.{get_map_or, map_map}
-use Rattle.tree_verify.specs.Hashers.{digest_if}
+use Rattle.tree_repair.specs.Hashers.{digest_if}
 use Rattle.tree_backup.specs.declared.item.Item.{Item}
 use Rattle.tree_backup.specs.Checks.{names, matches, mismatch, text_at}
 use Rattle.tree_backup.specs.Items.{entries_of}

@@ -3,14 +3,14 @@ use Rattle.std.proofs.Common.{◌≡◌, ℕ, zero, suc, Bool, true, false, cond
 use Rattle.std.specs.Prelude.{IfErr, length}
 use Rattle.ens_base.specs.Lists.{same_bytes}
 use Rattle.ens_base.specs.Results.{◌>>=◌}
-use Rattle.ens_fields.specs.Numbers.{byte_at, number_at, run_at}
-use Rattle.ens_fields.specs.Strings.{key_at}
-use Rattle.ens_fields.specs.declared.fault.Fault.{Fault}
-use Rattle.ens_fields.specs.declared.fault.Fault.TheVariants as faults
-use Rattle.ens_fields.specs.declared.field_error.FieldError.{FieldError}
-use Rattle.ens_fields.specs.declared.field_error.FieldError.TheVariants as fields
-use Rattle.ens_object.specs.Objects.{object_at}
-use Rattle.ens_object.specs.declared.error.ObjectRule.{ObjectRule}
+use Rattle.fields.specs.Numbers.{byte_at, number_at, run_at}
+use Rattle.fields.specs.Strings.{key_at}
+use Rattle.fields.specs.declared.fault.Fault.{Fault}
+use Rattle.fields.specs.declared.fault.Fault.TheVariants as faults
+use Rattle.fields.specs.declared.field_error.FieldError.{FieldError}
+use Rattle.fields.specs.declared.field_error.FieldError.TheVariants as fields
+use Rattle.stored_formats.specs.Objects.{object_at}
+use Rattle.stored_formats.specs.declared.object_error.ObjectRule.{ObjectRule}
 use Rattle.tree_node.specs.Entries.{is_above, rest_at}
 use Rattle.tree_node.specs.Repeats.{list_at}
 use Rattle.tree_backup.specs.declared.error.BackupError.{BackupError}

@@ -4,15 +4,15 @@ use Rattle.std.specs.Prelude.{IsErr}
 use Rattle.std.specs.Result.{IsErrAnd}
 use Rattle.std.proofs.lemmas.List.{take_more, map-append}
 use Rattle.ens_base.specs.Lists.{same_bytes}
-use Rattle.ens_hashing.specs.Hashing.{Book}
-use Rattle.ens_hashing.specs.declared.error.HashError.{HashError}
-use Rattle.ens_hashing.specs.declared.error.HashError.TheVariants as hashes
+use Rattle.hash_book.specs.Hashing.{Book}
+use Rattle.hash_book.specs.declared.error.HashError.{HashError}
+use Rattle.hash_book.specs.declared.error.HashError.TheVariants as hashes
 use Rattle.tree_repair.specs.Admitting.{Admitted, Rejected, AdmitsAll}
 use Rattle.tree_repair.proofs.Admissions.{admitted_append, rejected_first, rejected_then, memory_rejects, TriesOn}
-use Rattle.tree_maps.proofs.Slices.{drop_all}
+use Rattle.synctree.proofs.Slices.{drop_all}
 use Rattle.tree_repair.specs.Builds.{somes, build_nodes}
 use Rattle.tree_backup.specs.declared.item.Item.{Item}
-use Rattle.tree_maps.specs.Sixteen.{form_of}
+use Rattle.synctree.specs.Sixteen.{form_of}
 use Rattle.tree_node.specs.declared.version.TreeVersion.TheVariants.{Two}
 use Rattle.tree_backup.specs.Checks.{mismatch, under, text_at, texts_of, nodes_unless, judged_strings, strings_if, checked_strings}
 use Rattle.tree_backup.specs.Items.{entries_of}
@@ -28,8 +28,8 @@ use Rattle.tree_backup.specs.declared.item.Content.{Content}
 -- one more item of a list is mapped
 pub mapped_more : {A B : Type 0} (f : A → B) (xs : List A) (i : ℕ) (x : A) (y : B) (old new : List B) → i < length xs → x ≡ get_or xs i x → y ≡ f x → old ≡ map f (take i xs) → new ≡ old ++ y ∷ [] → new ≡ map f (take (i + 1) xs)
 mapped_more f xs i x y old new lt is made so_far more =
-    let front : take (i + 1) xs ≡ take i xs ++ x ∷ [] = take_more xs i x lt ∙ ap (λ z. take i xs ++ z ∷ []) (sym is) in
-    more ∙ (λ j. so_far j ++ made j ∷ []) ∙ sym (map-append f (take i xs) (x ∷ [])) ∙ ap (map f) (sym front)
+    let prefix : take (i + 1) xs ≡ take i xs ++ x ∷ [] = take_more xs i x lt ∙ ap (λ z. take i xs ++ z ∷ []) (sym is) in
+    more ∙ (λ j. so_far j ++ made j ∷ []) ∙ sym (map-append f (take i xs) (x ∷ [])) ∙ ap (map f) (sym prefix)
 
 -- `?` returns the error that it met
 pub passed_on : {A E : Type 0} (r : Result A E) (e : E) (G : E → Type 0) (P : Result A E → Type 0) → IsErr r → IsErrAnd r G → ((d : E) → G d → d ≡ e) → P (Err e) → P r

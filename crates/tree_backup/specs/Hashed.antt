@@ -1,7 +1,7 @@
 -- What the hasher did in a call of a backup that gives it these strings, one after another.
 use Rattle.std.specs.Prelude.{ℕ, List, Option, Result, Ok, Err}
-use Rattle.ens_hashing.specs.Hashing.{Book}
-use Rattle.ens_hashing.specs.declared.error.HashError.TheVariants as hashes
+use Rattle.hash_book.specs.Hashing.{Book}
+use Rattle.hash_book.specs.declared.error.HashError.TheVariants as hashes
 use Rattle.tree_repair.specs.Admitting.{Admitted, Rejected}
 use Rattle.tree_backup.specs.declared.error.BackupError.{BackupError}
 use Rattle.tree_backup.specs.declared.error.BackupError.TheVariants.{Clash, BookFull, Memory}

@@ -4,10 +4,10 @@ use Rattle.std.specs.Prelude.{◌≡◌, ◌<◌, ◌^◌, ℕ, true, List, [], 
 use Rattle.std.specs.List.{flat_map}
 use Rattle.byteorder.specs.Endian.{big_bytes}
 use Rattle.ens_base.specs.declared.entry.Entry.{Entry}
-use Rattle.ens_fields.specs.Numbers.{IsRun}
-use Rattle.ens_fields.specs.Entries.{IsEntry, entry_spelling}
-use Rattle.ens_object.specs.Objects.{IsObject, object_spelling}
-use Rattle.ens_object.specs.declared.object.Object.{Object}
+use Rattle.fields.specs.Numbers.{IsRun}
+use Rattle.fields.specs.Entries.{IsEntry, entry_spelling}
+use Rattle.stored_formats.specs.Objects.{IsObject, object_spelling}
+use Rattle.stored_formats.specs.declared.object.Object.{Object}
 use Rattle.tree_node.specs.Entries.{is_above}
 use Rattle.tree_node.specs.Repeats.{AreListed}
 use Rattle.tree_backup.specs.declared.item.Backup.{Backup}

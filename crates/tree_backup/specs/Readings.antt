@@ -2,18 +2,18 @@
 use Rattle.std.specs.Prelude.{◌≡◌, ◌-◌, ℕ, List, [], length, Option, None, Some, slice_get, Result, Ok, Err, ◌==◌, if◌then◌else◌}
 use Rattle.ens_base.specs.Results.{◌>>=◌}
 use Rattle.ens_base.specs.declared.entry.Entry.{Entry}
-use Rattle.ens_fields.specs.Numbers.{byte_at, number_at, run_at}
-use Rattle.ens_fields.specs.Strings.{key_at}
-use Rattle.ens_fields.specs.declared.fault.Fault.{Fault}
-use Rattle.ens_fields.specs.declared.fault.Fault.TheVariants as faults
-use Rattle.ens_fields.specs.declared.field_error.FieldError.{FieldError}
-use Rattle.ens_fields.specs.declared.field_error.FieldError.TheVariants as fields
-use Rattle.ens_object.specs.Objects.{object_at}
-use Rattle.ens_object.specs.declared.error.ObjectError.{ObjectError}
-use Rattle.ens_object.specs.declared.error.ObjectError.TheVariants as objects
-use Rattle.ens_object.specs.declared.error.ObjectRule.{ObjectRule}
-use Rattle.ens_object.specs.declared.error.ObjectRule.TheVariants as rules
-use Rattle.ens_object.specs.declared.object.Object.{Object}
+use Rattle.fields.specs.Numbers.{byte_at, number_at, run_at}
+use Rattle.fields.specs.Strings.{key_at}
+use Rattle.fields.specs.declared.fault.Fault.{Fault}
+use Rattle.fields.specs.declared.fault.Fault.TheVariants as faults
+use Rattle.fields.specs.declared.field_error.FieldError.{FieldError}
+use Rattle.fields.specs.declared.field_error.FieldError.TheVariants as fields
+use Rattle.stored_formats.specs.Objects.{object_at}
+use Rattle.stored_formats.specs.declared.object_error.ObjectError.{ObjectError}
+use Rattle.stored_formats.specs.declared.object_error.ObjectError.TheVariants as objects
+use Rattle.stored_formats.specs.declared.object_error.ObjectRule.{ObjectRule}
+use Rattle.stored_formats.specs.declared.object_error.ObjectRule.TheVariants as rules
+use Rattle.stored_formats.specs.declared.object.Object.{Object}
 use Rattle.tree_node.specs.Entries.{is_above, rest_at}
 use Rattle.tree_node.specs.Repeats.{list_at}
 use Rattle.tree_backup.specs.declared.error.BackupError.{BackupError}

@@ -2,12 +2,12 @@
 use Rattle.std.specs.Prelude.{◌≡◌, ◌⊎◌, ℕ, List, [], ◌∷◌, ◌++◌, map, Option, None, Result, Ok, Err, Vec, if◌then◌else◌}
 use Rattle.std.specs.declared.alloc.Global.{Global}
 use Rattle.ens_base.specs.declared.entry.Entry.{Entry}
-use Rattle.ens_hashing.specs.Hashing.{Book}
-use Rattle.ens_hashing.specs.declared.error.HashError.{HashError}
-use Rattle.ens_outside.specs.Stores.{BackendCall, BackendAnswer}
-use Rattle.ens_outside.specs.declared.errors.StoreError.{StoreError}
+use Rattle.hash_book.specs.Hashing.{Book}
+use Rattle.hash_book.specs.declared.error.HashError.{HashError}
+use Rattle.environment.specs.Stores.{BackendCall, BackendAnswer}
+use Rattle.environment.specs.declared.errors.StoreError.{StoreError}
 use Rattle.synctree.specs.declared.error.TreeError.{TreeError}
-use Rattle.tree_maps.specs.Sixteen.{form_of}
+use Rattle.synctree.specs.Sixteen.{form_of}
 use Rattle.tree_node.specs.Entries.{AreAbove}
 use Rattle.tree_node.specs.declared.body.Scan.{Scan}
 use Rattle.tree_node.specs.declared.position.Position.{Position}
@@ -21,7 +21,7 @@ use Rattle.tree_backup.specs.Stores.{Fetches, FetchStops, Puts, PutStops}
 use Rattle.tree_backup.specs.declared.error.BackupError.{BackupError}
 use Rattle.tree_backup.specs.declared.error.BackupError.TheVariants.{Order, Damaged}
 use Rattle.tree_backup.specs.declared.item.Item.{Item}
-use Rattle.ens_object.specs.declared.object.Object.{Object}
+use Rattle.stored_formats.specs.declared.object.Object.{Object}
 
 -- the item, without an object that does not match its entry
 abbrev pub matched : Item → Item

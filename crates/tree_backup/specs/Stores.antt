@@ -2,12 +2,12 @@
 use Rattle.std.specs.Prelude.{◌≡◌, ◌≢◌, ◌⊎◌, ℕ, List, [], ◌∷◌, Option, None, Some, Result, Ok, Err, Vec}
 use Rattle.std.specs.declared.alloc.Global.{Global}
 use Rattle.ens_base.specs.declared.entry.Entry.{Entry}
-use Rattle.ens_object.specs.Objects.{object_spelling}
-use Rattle.ens_object.specs.declared.object.Object.{Object}
-use Rattle.ens_outside.specs.Stores.{BackendCall, BackendAnswer, Get, Put}
-use Rattle.ens_outside.specs.declared.errors.StoreError.{StoreError}
-use Rattle.ens_outside.specs.declared.errors.StoreError.TheVariants.{Memory}
-use Rattle.kept_objects.specs.Kept.{object_in}
+use Rattle.stored_formats.specs.Objects.{object_spelling}
+use Rattle.stored_formats.specs.declared.object.Object.{Object}
+use Rattle.environment.specs.Stores.{BackendCall, BackendAnswer, Get, Put}
+use Rattle.environment.specs.declared.errors.StoreError.{StoreError}
+use Rattle.environment.specs.declared.errors.StoreError.TheVariants.{Memory}
+use Rattle.object_commands.specs.Kept.{object_in}
 use Rattle.tree_backup.specs.declared.item.Item.{Item}
 
 -- the object in what a backend returned, if it is one

@@ -2,10 +2,10 @@ ghost use Rattle.std.specs.Prelude.{◌≡◌, ◌⊎◌, [], map, IfOk, IsErrOf
 ghost use Rattle.ens_base.specs.Causes.{Rose};
 ghost use Rattle.synctree.specs.Outsides.{outside_does, outside_refuses};
 ghost use Rattle.synctree.specs.Plans.{Did};
-ghost use Rattle.tree_maps.specs.Sixteen.{form_of};
+ghost use Rattle.synctree.specs.Sixteen.{form_of};
 ghost use Rattle.tree_node.specs.Entries.{AreAbove};
 ghost use Rattle.tree_repair.specs.Admitting.{AdmitsAll};
-ghost use Rattle.tree_verify.specs.Levels.{scan_plan};
+ghost use Rattle.tree_repair.specs.Levels.{scan_plan};
 ghost use Rattle.tree_backup.specs.Checks.{Spells};
 ghost use Rattle.tree_backup.specs.Items.{entries_of};
 ghost use Rattle.tree_backup.specs.Order.{Rises};
@@ -19,14 +19,13 @@ use crate::matching::without_strays;
 use crate::order::are_once;
 use crate::writing::encode;
 use ens_base::{Entry, Seq};
-use ens_hashing::{HashError, Hasher16};
-use ens_outside::{Backend, NodeStore};
+use environment::{Backend, NodeStore};
+use hash_book::{HashError, Hasher16};
 use std::alloc::Global;
 use std::thread::Threads;
 use synctree::Tree;
 use tree_node::{Scan, TreeVersion};
-use tree_repair::build;
-use tree_verify::{Gate, scan};
+use tree_repair::{Gate, build, scan};
 
 /// Returns the entries of a scan without damage in which each key occurs once.
 fn sound(found: Scan) -> Result<Seq<Entry>, BackupError>
@@ -127,7 +126,8 @@ pub fn backup<B: Backend, N: NodeStore, H: Hasher16, R: Threads + Sync, G: Gate 
     gate: &G,
 ) -> Result<Vec<u8>, BackupError>
     ensures did { BacksUp (λ r s. Did (outside_does N.may_answer N.top_record N.fault_count H.kept H.clashes H.fulls) (outside_refuses N.may_refuse N.top_record N.fault_count H.kept H.clashes H.fulls)
-        (scan_plan (form_of tree.old.version) tree.old.top) (tree.old.store, hasher.old) r s) B.may_answer B.may_refuse H.kept H.clashes H.fulls backend.old result tree.new.store backend.new hasher.new }
+        (scan_plan (form_of tree.old.version) tree.old.top) (tree.old.store, hasher.old) r s) B.may_answer
+        B.may_refuse H.kept H.clashes H.fulls backend.old result tree.new.store backend.new hasher.new }
     ensures version_is { tree.new.version ≡ tree.old.version }
     ensures top { tree.new.top ≡ tree.old.top }
     ensures failed { IsErrOf result BackupError.Failed → Rose (N.fault_count tree.old.store) (N.fault_count tree.new.store) ⊎ Rose (B.fault_count backend.old) (B.fault_count backend.new) }

@@ -2,8 +2,8 @@ ghost use Rattle.std.specs.Prelude.{◌≡◌, ◌++◌, List, Ok, [], map, IfOk
 ghost use Rattle.std.specs.List.{cons_option};
 ghost use Rattle.tree_node.specs.Entries.{AreAbove};
 ghost use Rattle.tree_node.specs.declared.version.TreeVersion.TheVariants.{Two};
-ghost use Rattle.tree_maps.specs.Entries.{IsMap};
-ghost use Rattle.tree_maps.specs.Sixteen.{form_of};
+ghost use Rattle.synctree.specs.Entries.{IsMap};
+ghost use Rattle.synctree.specs.Sixteen.{form_of};
 ghost use Rattle.tree_repair.specs.Admitting.{AdmitsAll};
 ghost use Rattle.tree_repair.specs.Builds.{build_nodes};
 ghost use Rattle.tree_backup.specs.Causes.{IsOfCheck};
@@ -18,13 +18,12 @@ use crate::item::{Backup, Content, Item};
 use crate::matching::mismatch;
 use crate::reading::decode;
 use ens_base::{Digest, Key, Seq};
-use ens_hashing::{HashError, Hasher16};
-use ens_object::{BoxedObject, Object};
+use hash_book::{HashError, Hasher16};
 use std::alloc::{AllocError, Global};
 use std::thread::Threads;
+use stored_formats::{BoxedObject, Object};
 use tree_node::TreeVersion;
-use tree_repair::build;
-use tree_verify::Gate;
+use tree_repair::{Gate, build};
 
 /// Appends an object, if there is one.
 fn push_object(objects: &mut Vec<Object>, object: Option<BoxedObject>) -> Result<(), AllocError>

@@ -3,10 +3,10 @@ ghost use Rattle.tree_backup.specs.Causes.{cause_of, of_tree, of_store, of_hash}
 ghost use Rattle.tree_backup.specs.declared.error.BackupError.TheVariants.{Memory};
 
 use ens_base::{CopyError, Digest, Key};
-use ens_hashing::HashError;
-use ens_object::ObjectError;
-use ens_outside::StoreError;
+use environment::StoreError;
+use hash_book::HashError;
 use std::alloc::{AllocError, AllocFailed};
+use stored_formats::ObjectError;
 use synctree::TreeError;
 use tree_node::Position;
 

@@ -1,14 +1,14 @@
 ghost use Rattle.std.specs.Prelude.{◌≡◌, ◌≤◌, IfOk, IfErr, IsErrOf};
 ghost use Rattle.ens_base.specs.Causes.{Rose};
-ghost use Rattle.ens_outside.specs.Told.{bytes_of};
+ghost use Rattle.environment.specs.Told.{bytes_of};
 ghost use Rattle.tree_backup.specs.Stores.{decoded, DidFetch, DidFetchOne};
 
 use crate::item::Item;
 use ens_base::{Entry, Key};
-use ens_object::{BoxedObject, box_object};
-use ens_outside::{Backend, StoreError};
-use kept_objects::object_in;
+use environment::{Backend, StoreError};
+use object_commands::object_in;
 use std::alloc::Global;
+use stored_formats::{BoxedObject, box_object};
 
 /// Returns the object in what a backend returned, if it is one. Fails only when out of memory.
 fn decode(alloc: Global, bytes: &Option<Vec<u8>>) -> Result<Option<BoxedObject>, StoreError>

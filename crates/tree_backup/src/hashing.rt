@@ -1,17 +1,17 @@
 ghost use Rattle.std.specs.Prelude.{◌≡◌, ◌∷◌, [], map, IfOk, IfErr};
-ghost use Rattle.ens_hashing.specs.declared.error.HashError.TheVariants.{Memory};
+ghost use Rattle.hash_book.specs.declared.error.HashError.TheVariants.{Memory};
 ghost use Rattle.tree_repair.specs.Admitting.{AdmitsAll};
 ghost use Rattle.tree_repair.specs.Builds.{somes};
-ghost use Rattle.tree_verify.specs.Hashers.{digest_if};
+ghost use Rattle.tree_repair.specs.Hashers.{digest_if};
 ghost use Rattle.tree_backup.specs.Checks.{text_of as text_of_object, texts_of as texts_of_items, text_at};
 
 use crate::item::Item;
 use ens_base::{Bytes, Digest};
-use ens_hashing::{HashError, Hasher16};
-use ens_object::BoxedObject;
+use hash_book::{HashError, Hasher16};
 use std::alloc::Global;
 use std::thread::Threads;
-use tree_verify::{Gate, digests};
+use stored_formats::BoxedObject;
+use tree_repair::{Gate, digests};
 
 /// Returns the spelling of an object, if there is one. Fails only when out of memory.
 fn text_of(alloc: Global, object: &Option<BoxedObject>) -> Result<Option<Bytes>, HashError>

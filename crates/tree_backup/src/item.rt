@@ -1,5 +1,5 @@
 use ens_base::{Digest, Entry, Seq};
-use ens_object::{BoxedObject, Object};
+use stored_formats::{BoxedObject, Object};
 
 /// An entry of a tree, and the object that the entry names, if the backup has it.
 #[derive(Debug, Drop)]

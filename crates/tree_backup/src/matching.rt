@@ -1,11 +1,11 @@
 ghost use Rattle.std.specs.Prelude.{◌≡◌, map, IfOk};
-ghost use Rattle.tree_verify.specs.Hashers.{digest_if};
+ghost use Rattle.tree_repair.specs.Hashers.{digest_if};
 ghost use Rattle.tree_backup.specs.Checks.{matches as matches_of, mismatch as mismatch_of, text_at};
 ghost use Rattle.tree_backup.specs.Runs.{matched as matched_of};
 
 use crate::item::Item;
 use ens_base::{CopyError, Digest, Key};
-use kept_objects::is_named;
+use object_commands::is_named;
 use std::alloc::Global;
 
 /// Whether the object of the item, if it has one, matches the entry. `digest` is the MD5 of its

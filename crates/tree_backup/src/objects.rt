@@ -1,14 +1,14 @@
 ghost use Rattle.std.specs.Prelude.{◌≡◌, ◌≤◌, length, IfOk};
-ghost use Rattle.ens_fields.specs.Faults.{with_rule as named, Finds};
-ghost use Rattle.ens_fields.specs.Strings.{key_at, value_at};
-ghost use Rattle.ens_object.specs.Objects.{held_at as value_behind, content_at, object_at};
+ghost use Rattle.fields.specs.Faults.{with_rule as named, Finds};
+ghost use Rattle.fields.specs.Strings.{key_at, value_at};
+ghost use Rattle.stored_formats.specs.Objects.{held_at as value_behind, content_at, object_at};
 ghost use Rattle.tree_backup.specs.Readings.{held as held_of, Answers};
 
 use crate::error::BackupError;
 use ens_base::{Key, Value};
-use ens_fields::{Fault, plain, take_key, take_u8, take_value, take_version, with_rule};
-use ens_object::{Object, ObjectError, ObjectRule};
+use fields::{Fault, plain, take_key, take_u8, take_value, take_version, with_rule};
 use std::alloc::Global;
+use stored_formats::{Object, ObjectError, ObjectRule};
 
 fn read_key(alloc: Global, bytes: &[u8], at: usize) -> Result<(Key, usize), Fault<ObjectRule>>
     requires { at ≤ length bytes.now }
@@ -26,7 +26,7 @@ fn read_value(alloc: Global, bytes: &[u8], at: usize) -> Result<(Value, usize), 
     with_rule(take_value(alloc, bytes, at), ObjectRule::ValueLength)
 }
 
-#[tactic(auto, unfolding(ens_object::specs::Objects::held_at))]
+#[tactic(auto, unfolding(stored_formats::specs::Objects::held_at))]
 fn read_behind(
     alloc: Global,
     bytes: &[u8],
@@ -40,7 +40,7 @@ fn read_behind(
     Ok((Some(value), at))
 }
 
-#[tactic(auto, unfolding(ens_object::specs::Objects::content_at))]
+#[tactic(auto, unfolding(stored_formats::specs::Objects::content_at))]
 fn read_content(
     alloc: Global,
     bytes: &[u8],
@@ -58,7 +58,7 @@ fn read_content(
     }
 }
 
-#[tactic(auto, unfolding(ens_object::specs::Objects::object_at))]
+#[tactic(auto, unfolding(stored_formats::specs::Objects::object_at))]
 fn read_fields(alloc: Global, bytes: &[u8], at: usize) -> Result<(Object, usize), Fault<ObjectRule>>
     requires { at ≤ length bytes.now }
     ensures exact { Finds result (object_at bytes.now at) }

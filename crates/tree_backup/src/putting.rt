@@ -2,9 +2,9 @@ ghost use Rattle.std.specs.Prelude.{◌≤◌, IsErrOf};
 ghost use Rattle.ens_base.specs.Causes.{Rose};
 ghost use Rattle.tree_backup.specs.Stores.{DidPut, DidPutOne};
 
-use ens_object::Object;
-use ens_outside::{Backend, StoreError};
+use environment::{Backend, StoreError};
 use std::alloc::Global;
+use stored_formats::Object;
 
 /// Stores the spelling of the object under its key.
 fn put<B: Backend>(alloc: Global, backend: &mut B, object: &Object) -> Result<(), StoreError>

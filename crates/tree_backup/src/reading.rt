@@ -1,18 +1,34 @@
 ghost use Rattle.std.specs.Prelude.{◌≡◌, ◌≤◌, length, IfOk};
-ghost use Rattle.ens_fields.specs.Faults.{BreaksNoRule};
-ghost use Rattle.ens_fields.specs.Strings.{key_at};
+ghost use Rattle.fields.specs.Faults.{BreaksNoRule};
+ghost use Rattle.fields.specs.Strings.{key_at};
 ghost use Rattle.tree_node.specs.Entries.{rest_at};
 ghost use Rattle.tree_backup.specs.Items.{IsBackup, backup_spelling};
-ghost use Rattle.tree_backup.specs.Readings.{ended as unruled, keyed as key_ruled, magic_at, tag_at, tags_at, entry_at, object_behind, held_at, item_at, items_at, backup_at, all_of, backup_of, last_key, Answers};
+ghost use Rattle.tree_backup.specs.Readings.{
+  ended as unruled,
+  keyed as key_ruled,
+  magic_at,
+  tag_at,
+  tags_at,
+  entry_at,
+  object_behind,
+  held_at,
+  item_at,
+  items_at,
+  backup_at,
+  all_of,
+  backup_of,
+  last_key,
+  Answers,
+};
 
 use crate::error::BackupError;
 use crate::item::{Backup, Item};
 use crate::objects::read_object;
 use ens_base::{Entry, Key, Seq};
-use ens_fields::{FieldError, take_digest, take_key, take_u8, take_u16, take_u32, take_version};
-use ens_object::BoxedObject;
+use fields::{FieldError, take_digest, take_key, take_u8, take_u16, take_u32, take_version};
 use std::alloc::Global;
 use std::cmp::Ordering;
+use stored_formats::BoxedObject;
 
 /// The magic number with which a backup begins: the bytes 52 42.
 pub(crate) const MAGIC: u16 = 0x5242;

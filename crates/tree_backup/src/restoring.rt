@@ -2,14 +2,14 @@ ghost use Rattle.std.specs.Prelude.{◌≡◌, ◌⊎◌, ℕ, List, [], map, Op
 ghost use Rattle.std.specs.List.{AllByRecursion};
 ghost use Rattle.std.specs.Option.{IsSomeAnd};
 ghost use Rattle.ens_base.specs.Causes.{Rose};
-ghost use Rattle.ens_object.specs.Objects.{object_spelling};
+ghost use Rattle.stored_formats.specs.Objects.{object_spelling};
 ghost use Rattle.synctree.specs.Halves.{refused as refused_by_hasher};
 ghost use Rattle.synctree.specs.Meanings.{Enters};
 ghost use Rattle.synctree.specs.Outsides.{outside_does, outside_refuses};
 ghost use Rattle.synctree.specs.Plans.{Did};
-ghost use Rattle.tree_maps.specs.Entries.{IsMap};
-ghost use Rattle.tree_maps.specs.Maps.{Stands};
-ghost use Rattle.tree_maps.specs.Sixteen.{form_of};
+ghost use Rattle.synctree.specs.Entries.{IsMap};
+ghost use Rattle.synctree.specs.Maps.{Stands};
+ghost use Rattle.synctree.specs.Sixteen.{form_of};
 ghost use Rattle.tree_node.specs.Entries.{AreAbove};
 ghost use Rattle.tree_node.specs.declared.version.TreeVersion.TheVariants.{Two};
 ghost use Rattle.tree_repair.specs.Rebuilds.{rebuild_plan};
@@ -22,14 +22,13 @@ use crate::error::{BackupError, store_error, tree_error};
 use crate::item::Content;
 use crate::putting::put_all;
 use ens_base::Entry;
-use ens_hashing::{HashError, Hasher16};
-use ens_outside::{Backend, NodeStore};
+use environment::{Backend, NodeStore};
+use hash_book::{HashError, Hasher16};
 use std::alloc::Global;
 use std::thread::Threads;
 use synctree::{Tree, TreeError};
 use tree_node::TreeVersion;
-use tree_repair::{build, install};
-use tree_verify::Gate;
+use tree_repair::{Gate, build, install};
 
 /// Returns the error of a tree for this error of a hasher.
 fn refused(error: HashError) -> TreeError
@@ -89,8 +88,14 @@ pub fn restore<B: Backend, N: NodeStore, H: Hasher16, R: Threads + Sync, G: Gate
     requires version { tree.old.version ≡ Two }
     requires entries { AreAbove [] content.now.entries }
     requires objects { KeysAbove [] (map (λ o. o.key) content.now.objects) }
-    ensures did { Restores (λ r. Enters (λ x. Did (outside_does N.may_answer N.top_record N.fault_count H.kept H.clashes H.fulls) (outside_refuses N.may_refuse N.top_record N.fault_count H.kept H.clashes H.fulls)
-        (rebuild_plan (form_of Two) content.now.entries) (tree.old.store, hasher.old) x (tree.new.store, hasher.new)) tree.old.top r tree.new.top) B.may_answer B.may_refuse content.now.objects backend.old result backend.new }
+    ensures did { Restores (λ r. Enters (λ x. Did
+        (outside_does N.may_answer N.top_record N.fault_count H.kept H.clashes H.fulls)
+        (outside_refuses N.may_refuse N.top_record N.fault_count H.kept H.clashes H.fulls)
+        (rebuild_plan (form_of Two) content.now.entries) (tree.old.store, hasher.old) x (
+          tree.new.store,
+          hasher.new,
+        )) tree.old.top r tree.new.top) B.may_answer B.may_refuse content.now.objects backend.old result
+        backend.new }
     ensures version_is { tree.new.version ≡ tree.old.version }
     ensures top { OnOk result (tree.new.top ≡ Some (top_of content.now.entries)) }
     // The map of the tree is that of the content.

@@ -9,9 +9,9 @@ use crate::error::BackupError;
 use crate::item::Item;
 use crate::reading::{FORMAT, MAGIC, TREE};
 use ens_base::Digest;
-use ens_fields::{FieldError, put_digest, put_entry, put_u8, put_u16, put_u32};
-use ens_object::{BoxedObject, put_object};
+use fields::{FieldError, put_digest, put_entry, put_u8, put_u16, put_u32};
 use std::alloc::Global;
+use stored_formats::{BoxedObject, put_object};
 
 /// Appends the flag, and the object behind it.
 fn put_held(object: &Option<BoxedObject>, out: &mut Vec<u8>) -> Result<(), FieldError>

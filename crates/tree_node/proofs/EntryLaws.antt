@@ -3,17 +3,17 @@ use Rattle.std.proofs.Common.{◌≡◌, ℕ, ◌-◌, true, List, [], ◌∷◌
 use Rattle.std.specs.Prelude.{slice_get}
 use Rattle.std.specs.List.{AllByRecursion}
 use Rattle.ens_base.specs.declared.entry.Entry.{Entry}
-use Rattle.ens_fields.specs.declared.field_error.FieldError.TheVariants.{Rule}
-use Rattle.ens_fields.specs.Grammar.{IsGrammar}
-use Rattle.ens_fields.specs.Numbers.{IsRun, run_at}
+use Rattle.fields.specs.declared.field_error.FieldError.TheVariants.{Rule}
+use Rattle.fields.specs.Grammar.{IsGrammar}
+use Rattle.fields.specs.Numbers.{IsRun, run_at}
 use Rattle.ens_base.specs.Limits.{IsVersion, IsKey}
-use Rattle.ens_fields.specs.Versions.{version_spelling}
-use Rattle.ens_fields.specs.Strings.{key_spelling}
-use Rattle.ens_fields.specs.Entries.{IsEntry, entry_spelling}
-use Rattle.ens_fields.proofs.GrammarLaws.{valid_as, spelled_as, field_then, field_last, tested}
-use Rattle.ens_fields.proofs.NumberLaws.{run_grammar}
-use Rattle.ens_fields.proofs.FieldLaws.{key_grammar, version_grammar}
-use Rattle.ens_fields.proofs.EntryLaws.{remade}
+use Rattle.fields.specs.Versions.{version_spelling}
+use Rattle.fields.specs.Strings.{key_spelling}
+use Rattle.fields.specs.Entries.{IsEntry, entry_spelling}
+use Rattle.fields.proofs.GrammarLaws.{valid_as, spelled_as, field_then, field_last, tested}
+use Rattle.fields.proofs.NumberLaws.{run_grammar}
+use Rattle.fields.proofs.FieldLaws.{key_grammar, version_grammar}
+use Rattle.fields.proofs.EntryLaws.{remade}
 use Rattle.tree_node.specs.Entries.{is_above, key_or_none, last_key, AreAbove, IsNext, rest_at, next_at, entries_at, entries_spelling, AreDigests, digests_at, digests_spelling}
 use Rattle.tree_node.specs.Repeats.{AreListed}
 use Rattle.tree_node.proofs.RepeatLaws.{list_grammar}

@@ -2,15 +2,15 @@
 use Rattle.std.proofs.Common.{ℕ, zero, suc, ◌^◌, List, [], ◌∷◌, refl, arith, inl}
 use Rattle.std.specs.Prelude.{nat_le, nat_lt}
 use Rattle.ens_base.specs.declared.entry.Entry.{Entry}
-use Rattle.ens_fields.specs.declared.field_error.FieldError.{FieldError}
-use Rattle.ens_fields.specs.declared.field_error.FieldError.TheVariants as fields
-use Rattle.ens_fields.specs.Grammar.{IsGrammar}
-use Rattle.ens_fields.specs.Numbers.{run_at}
-use Rattle.ens_fields.proofs.GrammarLaws.{Reader}
-use Rattle.ens_fields.proofs.NumberLaws.{byte_grammar, run_grammar, u32_grammar}
-use Rattle.ens_fields.proofs.FieldLaws.{key_grammar, version_grammar}
-use Rattle.ens_fields.proofs.FirstFaultLaws.{Faults, IsRule, faultless, faults_then, faults_last}
-use Rattle.ens_fields.proofs.FieldFaults.{or_else, rejects, byte_faults, number_faults, run_faults, key_faults, version_faults}
+use Rattle.fields.specs.declared.field_error.FieldError.{FieldError}
+use Rattle.fields.specs.declared.field_error.FieldError.TheVariants as fields
+use Rattle.fields.specs.Grammar.{IsGrammar}
+use Rattle.fields.specs.Numbers.{run_at}
+use Rattle.fields.proofs.GrammarLaws.{Reader}
+use Rattle.fields.proofs.NumberLaws.{byte_grammar, run_grammar, u32_grammar}
+use Rattle.fields.proofs.FieldLaws.{key_grammar, version_grammar}
+use Rattle.fields.proofs.FirstFaultLaws.{Faults, IsRule, faultless, faults_then, faults_last}
+use Rattle.fields.proofs.FieldFaults.{or_else, rejects, byte_faults, number_faults, run_faults, key_faults, version_faults}
 use Rattle.tree_node.specs.declared.position.Position.{Position}
 use Rattle.tree_node.specs.declared.version.TreeVersion.{TreeVersion}
 use Rattle.tree_node.specs.Repeats.{list_at}

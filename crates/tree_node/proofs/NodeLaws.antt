@@ -3,12 +3,12 @@ use Rattle.std.proofs.Common.{◌≡◌, ℕ, ◌^◌, ◌<◌, Bool, true, fals
 use Rattle.std.specs.Prelude.{IfOk, count_ones}
 use Rattle.std.proofs.lemmas.Bool.{eqb-true}
 use Rattle.byteorder.specs.Endian.{big_bytes}
-use Rattle.ens_fields.specs.declared.field_error.FieldError.{FieldError}
-use Rattle.ens_fields.specs.declared.field_error.FieldError.TheVariants as fields
+use Rattle.fields.specs.declared.field_error.FieldError.{FieldError}
+use Rattle.fields.specs.declared.field_error.FieldError.TheVariants as fields
 use Rattle.ens_base.specs.Limits.{IsBytes}
-use Rattle.ens_fields.specs.Grammar.{IsGrammar}
-use Rattle.ens_fields.proofs.GrammarLaws.{Reader, valid_as, field_then, field_last, tested, checked, right, ok_is, whole_found, whole_again, apart}
-use Rattle.ens_fields.proofs.NumberLaws.{byte_grammar, u16_grammar, u32_grammar}
+use Rattle.fields.specs.Grammar.{IsGrammar}
+use Rattle.fields.proofs.GrammarLaws.{Reader, valid_as, field_then, field_last, tested, checked, right, ok_is, whole_found, whole_again, apart}
+use Rattle.fields.proofs.NumberLaws.{byte_grammar, u16_grammar, u32_grammar}
 use Rattle.tree_node.specs.declared.position.Position.{Position}
 use Rattle.tree_node.specs.declared.version.TreeVersion.{TreeVersion}
 use Rattle.tree_node.specs.declared.node.InnerNode.{InnerNode}

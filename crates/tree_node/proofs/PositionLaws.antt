@@ -1,14 +1,13 @@
 -- The grammars of positions.
-use Rattle.std.proofs.Common.{◌≡◌, ℕ, zero, suc, ◌^◌, ◌<◌, ◌≤◌, Bool, true, false, eqb, ◌&&◌, [], ◌∷◌, refl, sym, ap, subst, arith}
+use Rattle.std.proofs.Common.{◌≡◌, ℕ, zero, suc, ◌^◌, ◌<◌, ◌≤◌, Bool, true, false, eqb, ◌&&◌, [], ◌∷◌, refl, sym, ap, subst, arith, eq-eqb}
 use Rattle.std.specs.Prelude.{nat_le, nat_lt}
 use Rattle.std.proofs.lemmas.Bool.{ltb-true, lt-ltb, eqb-true}
-use Rattle.std.proofs.Common.{eq-eqb}
 use Rattle.std.proofs.lemmas.Bool.Decides.{nat_tests}
 use Rattle.byteorder.specs.Endian.{big_bytes}
-use Rattle.ens_fields.specs.declared.field_error.FieldError.TheVariants.{Rule}
-use Rattle.ens_fields.specs.Grammar.{IsGrammar}
-use Rattle.ens_fields.proofs.GrammarLaws.{valid_as, field_then, field_last, checked}
-use Rattle.ens_fields.proofs.NumberLaws.{byte_grammar, u32_grammar}
+use Rattle.fields.specs.declared.field_error.FieldError.TheVariants.{Rule}
+use Rattle.fields.specs.Grammar.{IsGrammar}
+use Rattle.fields.proofs.GrammarLaws.{valid_as, field_then, field_last, checked}
+use Rattle.fields.proofs.NumberLaws.{byte_grammar, u32_grammar}
 use Rattle.tree_node.specs.declared.position.Position.{Position}
 use Rattle.tree_node.specs.declared.version.TreeVersion.{TreeVersion}
 use Rattle.tree_node.specs.TreeVersions.{levels}

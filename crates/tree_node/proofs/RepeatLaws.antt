@@ -2,15 +2,15 @@
 use Rattle.std.proofs.Common.{◌≡◌, ℕ, zero, suc, ◌-◌, ◌+◌, ◌≤◌, ◌<◌, List, [], ◌∷◌, ◌++◌, length, drop, take, get_or, Result, Ok, Err, refl, sym, ap, subst, ◌∙◌, append_assoc, append-nil, arith, length-append}
 use Rattle.std.specs.List.{flat_map, AllByRecursion}
 use Rattle.std.proofs.lemmas.List.{take_more, flat_map_more}
-use Rattle.ens_fields.specs.declared.field_error.FieldError.{FieldError}
-use Rattle.ens_fields.specs.declared.field_error.FieldError.TheVariants.{Short, Rule, Memory}
+use Rattle.fields.specs.declared.field_error.FieldError.{FieldError}
+use Rattle.fields.specs.declared.field_error.FieldError.TheVariants.{Short, Rule, Memory}
 use Rattle.ens_base.specs.Limits.{IsBytes}
-use Rattle.ens_fields.specs.Places.{Spells}
+use Rattle.fields.specs.Places.{Spells}
 use Rattle.ens_base.specs.Results.{◌>>=◌}
-use Rattle.ens_fields.specs.Reading.{Fails}
-use Rattle.ens_fields.specs.Grammar.{IsGrammar}
-use Rattle.ens_fields.proofs.ByteLaws.{Spells-then, drop-spelled}
-use Rattle.ens_fields.proofs.GrammarLaws.{Reader, bind_ok, ok_is}
+use Rattle.fields.specs.Reading.{Fails}
+use Rattle.fields.specs.Grammar.{IsGrammar}
+use Rattle.fields.proofs.ByteLaws.{Spells-then, drop-spelled}
+use Rattle.fields.proofs.GrammarLaws.{Reader, bind_ok, ok_is}
 use Rattle.tree_node.specs.Repeats.{list_at, AreListed}
 
 list_found : {B A E : Type 0} (item : B → Reader A E) (after : A → B) (IsValid : B → A → Type 0) (spelling : A → List ℕ) → ((b : B) → IsGrammar (IsValid b) spelling (item b)) → (n : ℕ) (b : B) (bytes : List ℕ) (at : ℕ) (x : List A × ℕ)
@@ -48,47 +48,47 @@ list_grammar item after IsValid spelling g n b = record {
 -- ---- loops
 
 -- what was read before, and what is still read
-abbrev pub with_front : {A E : Type 0} → List A → Result (List A × ℕ) E → Result (List A × ℕ) E
-with_front front read = read >>= λ x. Ok (front ++ x.0, x.1)
+abbrev pub with_prefix : {A E : Type 0} → List A → Result (List A × ℕ) E → Result (List A × ℕ) E
+with_prefix prefix read = read >>= λ x. Ok (prefix ++ x.0, x.1)
 
-regroup : {A : Type 0} (front : List A) (x : A) (read : Result (List A × ℕ) FieldError) → with_front front (read >>= λ y. Ok (x ∷ y.0, y.1)) ≡ with_front (front ++ x ∷ []) read
-regroup front x (Ok y) = ap (λ xs. Ok (xs, y.1)) (sym (append_assoc front (x ∷ []) y.0))
-regroup front x (Err e) = refl
+regroup : {A : Type 0} (prefix : List A) (x : A) (read : Result (List A × ℕ) FieldError) → with_prefix prefix (read >>= λ y. Ok (x ∷ y.0, y.1)) ≡ with_prefix (prefix ++ x ∷ []) read
+regroup prefix x (Ok y) = ap (λ xs. Ok (xs, y.1)) (sym (append_assoc prefix (x ∷ []) y.0))
+regroup prefix x (Err e) = refl
 
-pub goes_on : {B A : Type 0} (item : B → Reader A FieldError) (after : A → B) (count i : ℕ) (b : B) (bytes : List ℕ) (place : ℕ) (front : List A) (x : A) (next : ℕ) (total : Result (List A × ℕ) FieldError)
-    → i < count → item b bytes place ≡ Ok (x, next) → with_front front (list_at item after (count - i) b bytes place) ≡ total → with_front (front ++ x ∷ []) (list_at item after (count - (i + 1)) (after x) bytes next) ≡ total
+pub goes_on : {B A : Type 0} (item : B → Reader A FieldError) (after : A → B) (count i : ℕ) (b : B) (bytes : List ℕ) (place : ℕ) (prefix : List A) (x : A) (next : ℕ) (total : Result (List A × ℕ) FieldError)
+    → i < count → item b bytes place ≡ Ok (x, next) → with_prefix prefix (list_at item after (count - i) b bytes place) ≡ total → with_prefix (prefix ++ x ∷ []) (list_at item after (count - (i + 1)) (after x) bytes next) ≡ total
 unfolding list_at
-goes_on item after count i b bytes place front x next total lt h so_far =
+goes_on item after count i b bytes place prefix x next total lt h so_far =
     let k : count - i ≡ suc (count - (i + 1)) = omega arith in
-    let one : with_front front (list_at item after (count - i) b bytes place) ≡ with_front (front ++ x ∷ []) (list_at item after (count - (i + 1)) (after x) bytes next) = rw (k, h) (regroup front x (list_at item after (count - (i + 1)) (after x) bytes next)) in
+    let one : with_prefix prefix (list_at item after (count - i) b bytes place) ≡ with_prefix (prefix ++ x ∷ []) (list_at item after (count - (i + 1)) (after x) bytes next) = rw (k, h) (regroup prefix x (list_at item after (count - (i + 1)) (after x) bytes next)) in
     sym one ∙ so_far
 
-pub stops : {B A : Type 0} (e : FieldError) (item : B → Reader A FieldError) (after : A → B) (count i : ℕ) (b : B) (bytes : List ℕ) (place : ℕ) (front : List A) (total : Result (List A × ℕ) FieldError)
-    → i < count → Fails e (item b bytes place) → with_front front (list_at item after (count - i) b bytes place) ≡ total → Fails e total
+pub stops : {B A : Type 0} (e : FieldError) (item : B → Reader A FieldError) (after : A → B) (count i : ℕ) (b : B) (bytes : List ℕ) (place : ℕ) (prefix : List A) (total : Result (List A × ℕ) FieldError)
+    → i < count → Fails e (item b bytes place) → with_prefix prefix (list_at item after (count - i) b bytes place) ≡ total → Fails e total
 unfolding list_at
-stops Memory item after count i b bytes place front total lt h so_far = tt
-stops (Short at) item after count i b bytes place front total lt h so_far =
+stops Memory item after count i b bytes place prefix total lt h so_far = tt
+stops (Short at) item after count i b bytes place prefix total lt h so_far =
     let k : count - i ≡ suc (count - (i + 1)) = omega arith in
-    let one : with_front front (list_at item after (count - i) b bytes place) ≡ Err (Short at) = rw (k, h) refl in
+    let one : with_prefix prefix (list_at item after (count - i) b bytes place) ≡ Err (Short at) = rw (k, h) refl in
     sym so_far ∙ one
-stops (Rule at) item after count i b bytes place front total lt h so_far =
+stops (Rule at) item after count i b bytes place prefix total lt h so_far =
     let k : count - i ≡ suc (count - (i + 1)) = omega arith in
-    let one : with_front front (list_at item after (count - i) b bytes place) ≡ Err (Rule at) = rw (k, h) refl in
+    let one : with_prefix prefix (list_at item after (count - i) b bytes place) ≡ Err (Rule at) = rw (k, h) refl in
     sym so_far ∙ one
 
-pub is_done : {B A : Type 0} (item : B → Reader A FieldError) (after : A → B) (count i : ℕ) (b : B) (bytes : List ℕ) (place : ℕ) (front : List A) (total : Result (List A × ℕ) FieldError)
-    → count ≤ i → with_front front (list_at item after (count - i) b bytes place) ≡ total → total ≡ Ok (front, place)
+pub is_done : {B A : Type 0} (item : B → Reader A FieldError) (after : A → B) (count i : ℕ) (b : B) (bytes : List ℕ) (place : ℕ) (prefix : List A) (total : Result (List A × ℕ) FieldError)
+    → count ≤ i → with_prefix prefix (list_at item after (count - i) b bytes place) ≡ total → total ≡ Ok (prefix, place)
 unfolding list_at
-is_done item after count i b bytes place front total le so_far =
+is_done item after count i b bytes place prefix total le so_far =
     let k : count - i ≡ 0 = omega arith in
-    let one : with_front front (list_at item after (count - i) b bytes place) ≡ Ok (front, place) = rw k (ap (λ xs. Ok (xs, place)) (append-nil front)) in
+    let one : with_prefix prefix (list_at item after (count - i) b bytes place) ≡ Ok (prefix, place) = rw k (ap (λ xs. Ok (xs, place)) (append-nil prefix)) in
     sym so_far ∙ one
 
 -- one item more was written
 pub wrote_more : {A : Type 0} (spelling : A → List ℕ) (xs : List A) (i : ℕ) (x : A) (old mid new : List ℕ) → i < length xs → x ≡ get_or xs i x → mid ≡ old ++ flat_map spelling (take i xs) → new ≡ mid ++ spelling x → new ≡ old ++ flat_map spelling (take (i + 1) xs)
 wrote_more spelling xs i x old mid new lt is so_far here =
-    let front : take (i + 1) xs ≡ take i xs ++ x ∷ [] = take_more xs i x lt ∙ ap (λ y. take i xs ++ y ∷ []) (sym is) in
-    here ∙ ap (λ (l : List ℕ). l ++ spelling x) so_far ∙ flat_map_more spelling old (take i xs) x ∙ ap (λ ys. old ++ flat_map spelling ys) (sym front)
+    let prefix : take (i + 1) xs ≡ take i xs ++ x ∷ [] = take_more xs i x lt ∙ ap (λ y. take i xs ++ y ∷ []) (sym is) in
+    here ∙ ap (λ (l : List ℕ). l ++ spelling x) so_far ∙ flat_map_more spelling old (take i xs) x ∙ ap (λ ys. old ++ flat_map spelling ys) (sym prefix)
 
 pub fails_of : {A : Type 0} (e : FieldError) (read : Result A FieldError) → read ≡ Err e → Fails e read
 fails_of Memory read h = tt

@@ -1,14 +1,14 @@
 -- The first faults of nodes.
 use Rattle.std.proofs.Common.{◌≡◌, ℕ, eqb, List, Result, Ok, Err, refl, sym, subst, arith, inl, inr}
 use Rattle.std.specs.Prelude.{count_ones}
-use Rattle.ens_fields.specs.declared.field_error.FieldError.{FieldError}
-use Rattle.ens_fields.specs.declared.field_error.FieldError.TheVariants as fields
-use Rattle.ens_fields.specs.Grammar.{IsGrammar}
-use Rattle.ens_fields.specs.FirstFaults.{EndsInside}
-use Rattle.ens_fields.proofs.GrammarLaws.{Reader}
-use Rattle.ens_fields.proofs.NumberLaws.{byte_grammar, u16_grammar, u32_grammar}
-use Rattle.ens_fields.proofs.FirstFaultLaws.{IsOne, Faults, IsRule, err_is, ok_no_err, faultless, faults_then, faults_last, faults_as, none_begins}
-use Rattle.ens_fields.proofs.FieldFaults.{or_else, rejects, byte_faults, number_faults}
+use Rattle.fields.specs.declared.field_error.FieldError.{FieldError}
+use Rattle.fields.specs.declared.field_error.FieldError.TheVariants as fields
+use Rattle.fields.specs.Grammar.{IsGrammar}
+use Rattle.fields.specs.FirstFaults.{EndsInside}
+use Rattle.fields.proofs.GrammarLaws.{Reader}
+use Rattle.fields.proofs.NumberLaws.{byte_grammar, u16_grammar, u32_grammar}
+use Rattle.fields.proofs.FirstFaultLaws.{IsOne, Faults, IsRule, err_is, ok_no_err, faultless, faults_then, faults_last, faults_as, none_begins}
+use Rattle.fields.proofs.FieldFaults.{or_else, rejects, byte_faults, number_faults}
 use Rattle.tree_node.specs.declared.position.Position.{Position}
 use Rattle.tree_node.specs.declared.version.TreeVersion.{TreeVersion}
 use Rattle.tree_node.specs.declared.node.InnerNode.{InnerNode}

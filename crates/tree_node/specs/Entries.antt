@@ -6,13 +6,13 @@ use Rattle.std.specs.Cmp.Lexicographic.{slice_cmp}
 use Rattle.std.specs.declared.cmp.Ordering.{Ordering}
 use Rattle.std.specs.declared.cmp.Ordering.TheVariants.{Less, Equal, Greater}
 use Rattle.ens_base.specs.declared.entry.Entry.{Entry}
-use Rattle.ens_fields.specs.declared.field_error.FieldError.{FieldError}
-use Rattle.ens_fields.specs.declared.field_error.FieldError.TheVariants.{Rule}
+use Rattle.fields.specs.declared.field_error.FieldError.{FieldError}
+use Rattle.fields.specs.declared.field_error.FieldError.TheVariants.{Rule}
 use Rattle.ens_base.specs.Results.{◌>>=◌}
-use Rattle.ens_fields.specs.Numbers.{run_at, IsRun}
-use Rattle.ens_fields.specs.Versions.{version_at}
-use Rattle.ens_fields.specs.Strings.{key_at}
-use Rattle.ens_fields.specs.Entries.{IsEntry, entry_spelling}
+use Rattle.fields.specs.Numbers.{run_at, IsRun}
+use Rattle.fields.specs.Versions.{version_at}
+use Rattle.fields.specs.Strings.{key_at}
+use Rattle.fields.specs.Entries.{IsEntry, entry_spelling}
 use Rattle.tree_node.specs.Repeats.{list_at, AreListed}
 
 abbrev pub is_less : Ordering → Bool

@@ -1,7 +1,7 @@
 -- The first fault of a node, which names a cause and no place.
 use Rattle.std.specs.Prelude.{◌≡◌, ◌-◌, ◌≤◌, ℕ, List, length, take, drop, Result, Err}
 use Rattle.ens_base.specs.Limits.{IsBytes}
-use Rattle.ens_fields.specs.FirstFaults.{EndsInside, BreaksRule, NoneBegins}
+use Rattle.fields.specs.FirstFaults.{EndsInside, BreaksRule, NoneBegins}
 use Rattle.tree_node.specs.declared.error.NodeError.{NodeError}
 use Rattle.tree_node.specs.declared.error.NodeError.TheVariants.{Short, Trailing, Order, Position as OtherPosition, Memory, BadTag}
 

@@ -1,10 +1,10 @@
 -- Positions of nodes, and how they are spelled.
 use Rattle.std.specs.Prelude.{◌≤◌, ◌<◌, ◌^◌, ℕ, Bool, List, [], ◌∷◌, ◌++◌, Result, Ok, Err, nat_le, nat_lt, ◌==◌, ◌&&◌, if◌then◌else◌}
 use Rattle.byteorder.specs.Endian.{big_bytes}
-use Rattle.ens_fields.specs.declared.field_error.FieldError.{FieldError}
-use Rattle.ens_fields.specs.declared.field_error.FieldError.TheVariants.{Rule}
+use Rattle.fields.specs.declared.field_error.FieldError.{FieldError}
+use Rattle.fields.specs.declared.field_error.FieldError.TheVariants.{Rule}
 use Rattle.ens_base.specs.Results.{◌>>=◌}
-use Rattle.ens_fields.specs.Numbers.{byte_at, number_at}
+use Rattle.fields.specs.Numbers.{byte_at, number_at}
 use Rattle.tree_node.specs.declared.position.Position.{Position}
 use Rattle.tree_node.specs.declared.version.TreeVersion.{TreeVersion}
 use Rattle.tree_node.specs.TreeVersions.{levels}

@@ -1,6 +1,6 @@
 ghost use Rattle.std.specs.Prelude.{◌≡◌, ◌<◌, ◌^◌, ◌++◌, length, [], count_ones, Ok, IfOk, IfErr, OnOk};
 ghost use Rattle.std.specs.List.{AllByRecursion};
-ghost use Rattle.ens_fields.specs.Entries.{IsEntry};
+ghost use Rattle.fields.specs.Entries.{IsEntry};
 ghost use Rattle.tree_node.specs.Positions.{IsPosition};
 ghost use Rattle.tree_node.specs.Entries.{AreAbove, AreDigests};
 ghost use Rattle.tree_node.specs.Nodes.{inner_spelling, segment_spelling, inner_of, segment_of};
@@ -9,7 +9,7 @@ use crate::entries::{append_digests, append_entries};
 use crate::error::NodeError;
 use crate::node::{InnerNode, Segment};
 use crate::position::put_position;
-use ens_fields::{FieldError, put_u8, put_u16, put_u32};
+use fields::{FieldError, put_u8, put_u16, put_u32};
 use std::alloc::Global;
 
 /// The number of bytes of an inner node with 16 children.

@@ -1,12 +1,12 @@
 ghost use Rattle.std.specs.Prelude.{◌≡◌, ◌≤◌, ◌++◌, take, length, IfOk, IfErr, OnOk};
 ghost use Rattle.std.specs.List.{AllByRecursion};
-ghost use Rattle.ens_fields.specs.Reading.{Gives};
-ghost use Rattle.ens_fields.specs.Faults.{BreaksNoRule};
-ghost use Rattle.ens_fields.specs.Entries.{IsEntry};
+ghost use Rattle.fields.specs.Reading.{Gives};
+ghost use Rattle.fields.specs.Faults.{BreaksNoRule};
+ghost use Rattle.fields.specs.Entries.{IsEntry};
 ghost use Rattle.tree_node.specs.Entries.{last_key, rest_at, next_at, entries_at, entries_spelling, AreDigests, digests_at, digests_spelling};
 
 use ens_base::{Digest, Entry, Key, Seq};
-use ens_fields::{FieldError, put_digest, put_entry, take_digest, take_key, take_version};
+use fields::{FieldError, put_digest, put_entry, take_digest, take_key, take_version};
 use std::alloc::Global;
 use std::cmp::Ordering;
 

@@ -1,5 +1,5 @@
 ghost use Rattle.std.specs.Prelude.{◌≡◌};
-ghost use Rattle.ens_fields.specs.FirstFaults.{FaultsFirst};
+ghost use Rattle.fields.specs.FirstFaults.{FaultsFirst};
 ghost use Rattle.tree_node.specs.declared.position.Position.{Position};
 ghost use Rattle.tree_node.specs.declared.version.TreeVersion.{TreeVersion};
 ghost use Rattle.tree_node.specs.Positions.{IsPosition, position_spelling, position_at};

@@ -1,5 +1,5 @@
 ghost use Rattle.std.specs.Prelude.{◌≡◌, ◌++◌, ℕ, List};
-ghost use Rattle.ens_fields.specs.Grammar.{IsGrammar};
+ghost use Rattle.fields.specs.Grammar.{IsGrammar};
 ghost use Rattle.tree_node.specs.declared.position.Position.{Position};
 ghost use Rattle.tree_node.specs.declared.version.TreeVersion.{TreeVersion};
 ghost use Rattle.tree_node.specs.declared.node.InnerNode.{InnerNode};

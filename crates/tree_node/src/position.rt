@@ -1,11 +1,10 @@
-ghost use Rattle.std.specs.Prelude.{◌≡◌, ◌≤◌, ◌++◌, length, IfOk, IfErr, OnOk, OnErr};
-ghost use Rattle.std.specs.Prelude.{◌^◌};
-ghost use Rattle.ens_fields.specs.Faults.{BreaksNoRule};
+ghost use Rattle.std.specs.Prelude.{◌≡◌, ◌≤◌, ◌++◌, length, IfOk, IfErr, OnOk, OnErr, ◌^◌};
+ghost use Rattle.fields.specs.Faults.{BreaksNoRule};
 ghost use Rattle.tree_node.specs.TreeVersions.{levels};
 ghost use Rattle.tree_node.specs.Positions.{level_at, index_at, position_at, any_position_at, position_spelling};
 
 use crate::version::TreeVersion;
-use ens_fields::{FieldError, take_u8, take_u32};
+use fields::{FieldError, take_u8, take_u32};
 
 /// The position of a node: its level, from 0 at the root to that of the segments, which is 3 or 5 by the
 /// version of the tree, and its index among the nodes of that level, which is below 16 to the power of

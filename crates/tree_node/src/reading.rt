@@ -1,11 +1,27 @@
 ghost use Rattle.std.specs.Prelude.{◌≡◌, ◌≤◌, length, count_ones, Ok, IfOk};
-ghost use Rattle.ens_fields.specs.Faults.{BreaksNoRule};
+ghost use Rattle.fields.specs.Faults.{BreaksNoRule};
 ghost use Rattle.tree_node.specs.declared.node.InnerNode.{InnerNode};
 ghost use Rattle.tree_node.specs.declared.node.Segment.{Segment};
 ghost use Rattle.tree_node.specs.TreeVersions.{inner_tag, segment_tag};
 ghost use Rattle.tree_node.specs.Positions.{IsPosition};
 ghost use Rattle.tree_node.specs.Entries.{entries_at, digests_at};
-ghost use Rattle.tree_node.specs.Nodes.{IsInner, inner_spelling, IsSegment, segment_spelling, ended as unruled, ordered as by_order, asked_at, inner_fields_at, inner_at, segment_fields_at, segment_at, all_of, inner_of, segment_of, Answers};
+ghost use Rattle.tree_node.specs.Nodes.{
+  IsInner,
+  inner_spelling,
+  IsSegment,
+  segment_spelling,
+  ended as unruled,
+  ordered as by_order,
+  asked_at,
+  inner_fields_at,
+  inner_at,
+  segment_fields_at,
+  segment_at,
+  all_of,
+  inner_of,
+  segment_of,
+  Answers,
+};
 
 use crate::entries::{take_digests, take_entries};
 use crate::error::NodeError;
@@ -13,7 +29,7 @@ use crate::node::{InnerNode, Segment};
 use crate::position::{Position, take_any_position};
 use crate::version::TreeVersion;
 use ens_base::{Digest, Entry, Seq};
-use ens_fields::{FieldError, take_u8, take_u16, take_u32};
+use fields::{FieldError, take_u8, take_u16, take_u32};
 use std::alloc::Global;
 
 /// Turns the answer of a field that has no rule into that of a node. A broken rule would be reported as

@@ -2,9 +2,9 @@
 use Rattle.std.proofs.Common.{◌≡◌, ℕ, List, [], ◌∷◌, ◌++◌, Option, Result, Ok, Err, refl, sym, subst, inl, inr}
 use Rattle.std.specs.Prelude.{IsErr}
 use Rattle.std.specs.Result.{IsErrAnd}
-use Rattle.ens_hashing.specs.Hashing.{Book, Admits}
-use Rattle.ens_hashing.specs.declared.error.HashError.{HashError}
-use Rattle.ens_hashing.specs.declared.error.HashError.TheVariants.{Memory}
+use Rattle.hash_book.specs.Hashing.{Book, Admits}
+use Rattle.hash_book.specs.declared.error.HashError.{HashError}
+use Rattle.hash_book.specs.declared.error.HashError.TheVariants.{Memory}
 use Rattle.tree_repair.specs.Admitting.{Admitted, Rejected, AdmitsAll}
 use Rattle.tree_repair.specs.Builds.{somes}
 use Rattle.tree_repair.proofs.Lists.{somes_cons}

@@ -8,14 +8,14 @@ use Rattle.std.proofs.lemmas.Bool.Decides.{nat_tests}
 use Rattle.std.proofs.lemmas.Bool.{ne_eqb, eq-eqb}
 use Rattle.ens_base.specs.declared.entry.Entry.{Entry}
 use Rattle.tree_node.specs.Entries.{is_less, is_above, AreAbove}
-use Rattle.tree_maps.specs.Forms.{Form, Laws}
-use Rattle.tree_maps.specs.Maps.{text}
-use Rattle.tree_maps.specs.Paths.{passes, under, present, node_of}
-use Rattle.tree_maps.proofs.Orders.{less_trans}
-use Rattle.tree_maps.proofs.Slices.{take_at}
-use Rattle.tree_maps.proofs.TreeNode.{less_above as above_less}
+use Rattle.synctree.specs.Forms.{Form, Laws}
+use Rattle.synctree.specs.Maps.{text}
+use Rattle.synctree.specs.Paths.{passes, under, present, node_of}
+use Rattle.synctree.proofs.Orders.{less_trans}
+use Rattle.synctree.proofs.Slices.{take_at}
+use Rattle.synctree.proofs.TreeNode.{less_above as above_less}
 use Rattle.tree_repair.specs.Builds.{place}
-use Rattle.tree_repair.specs.Levels.{index_of, is_there, indexes_of}
+use Rattle.tree_repair.specs.RepairLevels.{index_of, is_there, indexes_of}
 use Rattle.tree_repair.specs.Runs.{IsRun}
 use Rattle.tree_repair.specs.Segments.{placed, taken}
 use Rattle.tree_repair.specs.declared.order.Placed.{Placed}

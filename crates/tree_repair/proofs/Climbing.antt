@@ -1,24 +1,24 @@
 -- A build, level by level.
 use Rattle.std.proofs.Common.{◌≡◌, ℕ, suc, ◌+◌, ◌-◌, ◌<◌, List, [], ◌∷◌, ◌++◌, Option, Some, length, get_or, map, ap, sym, ◌∙◌, subst, arith, append_assoc}
 use Rattle.std.proofs.lemmas.List.{map-append}
-use Rattle.ens_hashing.specs.Hashing.{Book}
+use Rattle.hash_book.specs.Hashing.{Book}
 use Rattle.md5.specs.Md5.{md5}
 use Rattle.ens_base.specs.declared.entry.Entry.{Entry}
 use Rattle.tree_node.specs.declared.version.TreeVersion.{TreeVersion}
 use Rattle.tree_node.specs.TreeVersions.{levels}
-use Rattle.tree_maps.specs.Forms.{root}
-use Rattle.tree_maps.specs.Maps.{text}
-use Rattle.tree_maps.specs.Sixteen.{form_of}
+use Rattle.synctree.specs.Forms.{root}
+use Rattle.synctree.specs.Maps.{text}
+use Rattle.synctree.specs.Sixteen.{form_of}
 use Rattle.synctree.specs.declared.stored_node.StoredNode.{StoredNode}
 use Rattle.synctree.proofs.Places.{depth_is}
-use Rattle.tree_verify.specs.Hashers.{digest_if}
+use Rattle.tree_repair.specs.Hashers.{digest_if}
 use Rattle.tree_repair.specs.Builds.{somes, level_of, nodes_down, build_nodes, stored}
-use Rattle.tree_repair.specs.Levels.{indexes_of, texts_of, names_of}
+use Rattle.tree_repair.specs.RepairLevels.{indexes_of, texts_of, names_of}
 use Rattle.tree_repair.proofs.Lists.{somes_cons, get_map_or}
 use Rattle.tree_repair.specs.Admitting.{Admitted, Rejected, AdmitsAll}
 use Rattle.tree_repair.proofs.Admissions.{admits_then, memory_after, rejected_on}
-use Rattle.ens_hashing.specs.declared.error.HashError.{HashError}
-use Rattle.ens_hashing.specs.declared.error.HashError.TheVariants.{Memory}
+use Rattle.hash_book.specs.declared.error.HashError.{HashError}
+use Rattle.hash_book.specs.declared.error.HashError.TheVariants.{Memory}
 use Rattle.std.specs.Prelude.{IsErr, Result}
 use Rattle.std.specs.Result.{IsErrAnd}
 use Rattle.tree_repair.proofs.Levels.{root_name, somes_texts}

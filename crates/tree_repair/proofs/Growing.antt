@@ -8,11 +8,11 @@ use Rattle.ens_base.specs.declared.entry.Entry.{Entry}
 use Rattle.tree_node.specs.declared.version.TreeVersion.{TreeVersion}
 use Rattle.tree_node.specs.TreeVersions.{levels}
 use Rattle.tree_node.specs.Positions.{IsPosition}
-use Rattle.tree_maps.specs.Sixteen.{form_of}
-use Rattle.tree_maps.proofs.Slices.{take_at, take_all}
+use Rattle.synctree.specs.Sixteen.{form_of}
+use Rattle.synctree.proofs.Slices.{take_at, take_all}
 use Rattle.synctree.proofs.Places.{depth_is}
 use Rattle.tree_repair.specs.Builds.{place}
-use Rattle.tree_repair.specs.Levels.{index_of}
+use Rattle.tree_repair.specs.RepairLevels.{index_of}
 use Rattle.tree_repair.specs.Runs.{IsRun}
 use Rattle.tree_repair.specs.Segments.{placed}
 use Rattle.tree_repair.specs.declared.order.Placed.{Placed}

@@ -14,14 +14,14 @@ use Rattle.tree_node.specs.declared.version.TreeVersion.TheVariants.{Two}
 use Rattle.tree_node.specs.TreeVersions.{levels}
 use Rattle.tree_node.specs.Positions.{IsPosition}
 use Rattle.tree_node.proofs.TreeVersionLaws.{levels_few, position_deepest}
-use Rattle.tree_maps.specs.Forms.{Form, Laws, child}
-use Rattle.tree_maps.specs.Sixteen.{form_of, nibble}
-use Rattle.tree_maps.proofs.Formats.{form_laws}
-use Rattle.tree_maps.proofs.Below.{some_width}
+use Rattle.synctree.specs.Forms.{Form, Laws, child}
+use Rattle.synctree.specs.Sixteen.{form_of, nibble}
+use Rattle.synctree.proofs.Formats.{form_laws}
+use Rattle.synctree.proofs.Below.{some_width}
 use Rattle.synctree.proofs.Places.{width_is, depth_is, digit_is}
-use Rattle.tree_maps.specs.Paths.{passes, under}
+use Rattle.synctree.specs.Paths.{passes, under}
 use Rattle.tree_repair.specs.Builds.{place}
-use Rattle.tree_repair.specs.Levels.{index_of}
+use Rattle.tree_repair.specs.RepairLevels.{index_of}
 
 pub filter_agree : (p q : Entry → Bool) → ((e : Entry) → p e ≡ q e) → (m : List Entry) → filter p m ≡ filter q m
 filter_agree p q h [] = refl

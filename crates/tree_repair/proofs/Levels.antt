@@ -14,18 +14,18 @@ use Rattle.ens_base.specs.declared.entry.Entry.{Entry}
 use Rattle.ens_base.proofs.Tests.{same_test}
 use Rattle.tree_node.specs.declared.version.TreeVersion.{TreeVersion}
 use Rattle.tree_node.specs.TreeVersions.{levels}
-use Rattle.tree_maps.specs.Forms.{Form, Laws, root, child}
-use Rattle.tree_maps.specs.Maps.{each_of, within, named, text, children}
-use Rattle.tree_maps.specs.Paths.{under, present, node_of}
-use Rattle.tree_maps.specs.Sixteen.{form_of}
-use Rattle.tree_maps.proofs.Parts.{set-each, each-none}
-use Rattle.tree_maps.proofs.Below.{under_child, every, some_width}
-use Rattle.tree_maps.proofs.Formats.{form_laws}
+use Rattle.synctree.specs.Forms.{Form, Laws, root, child}
+use Rattle.synctree.specs.Maps.{each_of, within, named, text, children}
+use Rattle.synctree.specs.Paths.{under, present, node_of}
+use Rattle.synctree.specs.Sixteen.{form_of}
+use Rattle.synctree.proofs.Parts.{set-each, each-none}
+use Rattle.synctree.proofs.Below.{under_child, every, some_width}
+use Rattle.synctree.proofs.Formats.{form_laws}
 use Rattle.synctree.proofs.Places.{width_is, depth_is}
-use Rattle.tree_verify.specs.Hashers.{digest_if}
+use Rattle.tree_repair.specs.Hashers.{digest_if}
 use Rattle.tree_repair.specs.Builds.{place, somes, level_of}
 use Rattle.tree_repair.specs.Inner.{indexes_above, filled, filled_at, children_of}
-use Rattle.tree_repair.specs.Levels.{is_there, indexes_of, texts_of, names_of}
+use Rattle.tree_repair.specs.RepairLevels.{is_there, indexes_of, texts_of, names_of}
 use Rattle.tree_repair.specs.Runs.{IsRun}
 use Rattle.tree_repair.specs.declared.runs.Run.{Run}
 use Rattle.tree_repair.proofs.Lists.{each_from, map_map, length_of_map}

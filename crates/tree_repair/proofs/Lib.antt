@@ -1,3 +1,14 @@
+pub mod Setting
+pub mod Roots
+pub mod Loops
+pub mod Stepping
+pub mod Rising
+pub mod Telling
+pub mod Joining
+pub mod Descending
+pub mod Walking
+pub mod Unbroken
+pub mod Filling
 pub mod Lists
 pub mod Numbers
 pub mod Indexes

@@ -1,6 +1,6 @@
 -- Lists of what a function gives at each place, and lists that grow.
 use Rattle.std.proofs.Common.{◌≡◌, ℕ, zero, suc, ◌+◌, ◌<◌, ◌≤◌, List, [], ◌∷◌, ◌++◌, Option, None, Some, length, get_or, set, drop, map, refl, ap, sym, ◌∙◌, arith}
-use Rattle.tree_maps.specs.Maps.{each_of}
+use Rattle.synctree.specs.Maps.{each_of}
 use Rattle.tree_repair.specs.Builds.{somes}
 
 -- what was set lies before the rest

@@ -5,7 +5,7 @@ use Rattle.std.specs.List.{dedup, dedup_from}
 use Rattle.std.specs.List.Sorted.{IsNonDecreasing}
 use Rattle.std.proofs.lemmas.Bool.Decides.{nat_tests}
 use Rattle.std.proofs.lemmas.Bool.{ne_eqb, eq-eqb}
-use Rattle.tree_maps.specs.Maps.{each_of}
+use Rattle.synctree.specs.Maps.{each_of}
 use Rattle.tree_repair.specs.Runs.{IsRun, Ends}
 
 -- ## Number by number

@@ -10,7 +10,7 @@ use Rattle.std.proofs.lemmas.List.Elements.{All-nil, All-cons}
 use Rattle.std.proofs.lemmas.Bool.Decides.{nat_tests}
 use denote.Param.Members.{Mut}
 use denote.Ref.{Bor}
-use Rattle.tree_maps.proofs.Slices.{drop_at, drop_all}
+use Rattle.synctree.proofs.Slices.{drop_at, drop_all}
 use Rattle.tree_repair.specs.declared.order.Placed.{Placed}
 use Rattle.tree_repair.specs.Segments.{placed}
 use Rattle.tree_repair.proofs.Lists.{append_nil}

@@ -1,11 +1,11 @@
 -- What the hasher admitted and what the store wrote, as one plan over both.
 use Rattle.std.proofs.Common.{◌≡◌, ℕ, List, [], ◌∷◌, Option, None, Some, Result, Ok, Err, refl, ap, subst, inl, inr}
 use Rattle.ens_base.specs.declared.entry.Entry.{Entry}
-use Rattle.ens_hashing.specs.Hashing.{Book, Stays, Refuses as Rejects}
-use Rattle.ens_hashing.specs.declared.error.HashError.{HashError}
-use Rattle.ens_hashing.specs.declared.error.HashError.TheVariants as hashes
-use Rattle.ens_outside.specs.Stores.{NodeCall, NodeAnswer}
-use Rattle.ens_outside.specs.declared.errors.StoreError.{StoreError}
+use Rattle.hash_book.specs.Hashing.{Book, Stays, Refuses as Rejects}
+use Rattle.hash_book.specs.declared.error.HashError.{HashError}
+use Rattle.hash_book.specs.declared.error.HashError.TheVariants as hashes
+use Rattle.environment.specs.Stores.{NodeCall, NodeAnswer}
+use Rattle.environment.specs.declared.errors.StoreError.{StoreError}
 use Rattle.synctree.specs.Halves.{refused}
 use Rattle.synctree.specs.Installs.{store_does, store_refuses, install_plan}
 use Rattle.synctree.specs.Meanings.{Enters}
@@ -16,7 +16,7 @@ use Rattle.synctree.specs.declared.error.TreeError.TheVariants.{Damaged, Failed,
 use Rattle.synctree.proofs.Composing.{did_then, did_err}
 use Rattle.synctree.proofs.Exits.{DidOutside}
 use Rattle.synctree.proofs.Writing.{DidStore}
-use Rattle.tree_maps.specs.Forms.{Form}
+use Rattle.synctree.specs.Forms.{Form}
 use Rattle.tree_node.specs.declared.position.Position.{Position}
 use Rattle.tree_repair.specs.Admitting.{Admitted, Rejected}
 use Rattle.tree_repair.specs.Builds.{build_nodes, build_of}

@@ -1,8 +1,8 @@
 -- What a hasher did with strings that it was given one after another.
 use Rattle.std.specs.Prelude.{◌≡◌, ◌⊎◌, ◌≤◌, ℕ, List, [], ◌∷◌, Option, Result, Ok, Err}
-use Rattle.ens_hashing.specs.Hashing.{Book, Takes, Stays, Refuses}
-use Rattle.ens_hashing.specs.declared.error.HashError.{HashError}
-use Rattle.ens_hashing.specs.declared.error.HashError.TheVariants.{Memory}
+use Rattle.hash_book.specs.Hashing.{Book, Takes, Stays, Refuses}
+use Rattle.hash_book.specs.declared.error.HashError.{HashError}
+use Rattle.hash_book.specs.declared.error.HashError.TheVariants.{Memory}
 
 -- it admitted each of them
 abbrev pub Admitted : {H : Type 0} → (H → Option Book) → (H → ℕ) → (H → ℕ) → List (List ℕ) → H → H → Type 0

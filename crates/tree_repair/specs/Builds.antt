@@ -3,9 +3,9 @@ use Rattle.std.specs.Prelude.{ℕ, zero, suc, ◌^◌, List, [], ◌∷◌, ◌+
 use Rattle.md5.specs.Md5.{md5}
 use Rattle.ens_base.specs.declared.entry.Entry.{Entry}
 use Rattle.tree_node.specs.declared.position.Position.{Position}
-use Rattle.tree_maps.specs.Forms.{Form, root}
-use Rattle.tree_maps.specs.Maps.{each_of, text}
-use Rattle.tree_maps.specs.Paths.{node_of}
+use Rattle.synctree.specs.Forms.{Form, root}
+use Rattle.synctree.specs.Maps.{each_of, text}
+use Rattle.synctree.specs.Paths.{node_of}
 use Rattle.synctree.specs.declared.stored_node.StoredNode.{StoredNode}
 use Rattle.tree_repair.specs.declared.built.Built.{Built}
 

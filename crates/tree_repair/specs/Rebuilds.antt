@@ -3,7 +3,7 @@ use Rattle.std.specs.Prelude.{ℕ, List, [], ◌∷◌}
 use Rattle.ens_base.specs.declared.entry.Entry.{Entry}
 use Rattle.synctree.specs.Installs.{install_plan}
 use Rattle.synctree.specs.Plans.{Plan, Hash, Done, Ask, ◌>>=◌}
-use Rattle.tree_maps.specs.Forms.{Form}
+use Rattle.synctree.specs.Forms.{Form}
 use Rattle.tree_repair.specs.Builds.{build_nodes, build_of}
 
 -- gives these strings to the hasher, one after another

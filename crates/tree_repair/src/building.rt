@@ -1,25 +1,26 @@
 ghost use Rattle.std.specs.Prelude.{◌≡◌, ◌≤◌, ◌-◌, ◌++◌, ◌∷◌, [], map, IfOk, OnOk};
 ghost use Rattle.tree_node.specs.Entries.{AreAbove};
 ghost use Rattle.tree_node.specs.TreeVersions.{levels};
-ghost use Rattle.tree_maps.specs.Entries.{IsMap};
-ghost use Rattle.tree_maps.specs.Maps.{Stands};
-ghost use Rattle.tree_maps.specs.Sixteen.{form_of};
+ghost use Rattle.synctree.specs.Entries.{IsMap};
+ghost use Rattle.synctree.specs.Maps.{Stands};
+ghost use Rattle.synctree.specs.Sixteen.{form_of};
 ghost use Rattle.tree_repair.specs.Admitting.{AdmitsAll};
-ghost use Rattle.tree_verify.specs.Hashers.{digest_if};
+ghost use Rattle.tree_repair.specs.Hashers.{digest_if};
 ghost use Rattle.tree_repair.specs.Builds.{somes, nodes_down, stored, build_nodes, build_of};
-ghost use Rattle.tree_repair.specs.Levels.{indexes_of, names_of};
+ghost use Rattle.tree_repair.specs.RepairLevels.{indexes_of, names_of};
 
 use crate::built::Built;
+use crate::gate::Gate;
+use crate::hashing::digests;
 use crate::inner::inner_texts;
-use crate::level::{Names, Texts};
+use crate::repair_level::{Names, Texts};
 use crate::segments::segment_texts;
 use ens_base::{Bytes, Digest, Entry, Seq};
-use ens_hashing::{HashError, Hasher16};
+use hash_book::{HashError, Hasher16};
 use std::alloc::Global;
 use std::thread::Threads;
 use synctree::{ROOT, StoredNode};
 use tree_node::TreeVersion;
-use tree_verify::{Gate, digests};
 
 /// Admits a text, if there is one, and appends it to the nodes.
 fn keep<H: Hasher16>(

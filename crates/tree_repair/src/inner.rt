@@ -3,11 +3,11 @@ ghost use Rattle.std.specs.List.{All};
 ghost use Rattle.std.specs.List.Sorted.{IsNonDecreasing};
 ghost use Rattle.tree_node.specs.TreeVersions.{levels};
 ghost use Rattle.tree_node.specs.Positions.{IsPosition};
-ghost use Rattle.tree_maps.specs.Sixteen.{form_of};
+ghost use Rattle.synctree.specs.Sixteen.{form_of};
 ghost use Rattle.tree_repair.specs.Builds.{place};
 ghost use Rattle.tree_repair.specs.Inner.{filled, children_of, indexes_above};
 
-use crate::level::{Names, Texts};
+use crate::repair_level::{Names, Texts};
 use crate::runs::runs_of;
 use ens_base::{Bytes, Digest};
 use std::alloc::{AllocError, Global};

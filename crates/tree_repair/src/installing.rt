@@ -2,16 +2,16 @@ ghost use Rattle.std.specs.Prelude.{◌≡◌, List, Some, OnOk};
 ghost use Rattle.std.specs.Option.{IsSomeAnd};
 ghost use Rattle.ens_base.specs.declared.entry.Entry.{Entry};
 ghost use Rattle.tree_node.specs.declared.version.TreeVersion.{TreeVersion};
-ghost use Rattle.tree_maps.specs.Entries.{IsMap};
-ghost use Rattle.tree_maps.specs.Maps.{Stands};
-ghost use Rattle.tree_maps.specs.Sixteen.{form_of};
+ghost use Rattle.synctree.specs.Entries.{IsMap};
+ghost use Rattle.synctree.specs.Maps.{Stands};
+ghost use Rattle.synctree.specs.Sixteen.{form_of};
 ghost use Rattle.synctree.specs.Installs.{store_does, store_refuses, install_plan};
 ghost use Rattle.synctree.specs.Meanings.{Enters};
 ghost use Rattle.synctree.specs.Plans.{Did};
 ghost use Rattle.tree_repair.specs.Builds.{build_of};
 
 use crate::built::Built;
-use ens_outside::NodeStore;
+use environment::NodeStore;
 use std::alloc::Global;
 use synctree::{Tree, TreeError};
 

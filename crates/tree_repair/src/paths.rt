@@ -1,9 +1,9 @@
 ghost use Rattle.std.specs.Prelude.{◌≡◌};
-ghost use Rattle.tree_maps.specs.Sixteen.{form_of};
-ghost use Rattle.tree_repair.specs.Levels.{index_of};
+ghost use Rattle.synctree.specs.Sixteen.{form_of};
+ghost use Rattle.tree_repair.specs.RepairLevels.{index_of};
 
 use ens_base::Key;
-use ens_hashing::digest_of;
+use hash_book::digest_of;
 use synctree::{ROOT, child, nibble};
 use tree_node::TreeVersion;
 

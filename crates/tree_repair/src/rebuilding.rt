@@ -4,22 +4,22 @@ ghost use Rattle.synctree.specs.Halves.{refused};
 ghost use Rattle.synctree.specs.Meanings.{Enters};
 ghost use Rattle.synctree.specs.Outsides.{outside_does, outside_refuses};
 ghost use Rattle.synctree.specs.Plans.{Did};
-ghost use Rattle.tree_maps.specs.Entries.{IsMap};
-ghost use Rattle.tree_maps.specs.Maps.{Stands};
-ghost use Rattle.tree_maps.specs.Sixteen.{form_of};
+ghost use Rattle.synctree.specs.Entries.{IsMap};
+ghost use Rattle.synctree.specs.Maps.{Stands};
+ghost use Rattle.synctree.specs.Sixteen.{form_of};
 ghost use Rattle.tree_node.specs.Entries.{AreAbove};
 ghost use Rattle.tree_repair.specs.Builds.{build_of};
 ghost use Rattle.tree_repair.specs.Rebuilds.{rebuild_plan};
 
 use crate::building::build;
+use crate::gate::NoGate;
 use crate::installing::install;
 use ens_base::Entry;
-use ens_hashing::{HashError, Hasher16};
-use ens_outside::NodeStore;
+use environment::NodeStore;
+use hash_book::{HashError, Hasher16};
 use std::alloc::Global;
 use std::thread::Threads;
 use synctree::{Tree, TreeError};
-use tree_verify::NoGate;
 
 /// Returns the error of a tree for this error of a hasher.
 fn tree_error(error: HashError) -> TreeError

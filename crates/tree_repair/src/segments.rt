@@ -3,14 +3,14 @@ ghost use Rattle.std.specs.List.{All};
 ghost use Rattle.tree_node.specs.Entries.{AreAbove};
 ghost use Rattle.tree_node.specs.TreeVersions.{levels};
 ghost use Rattle.tree_node.specs.Positions.{IsPosition};
-ghost use Rattle.tree_maps.specs.Sixteen.{form_of};
+ghost use Rattle.synctree.specs.Sixteen.{form_of};
 ghost use Rattle.tree_repair.specs.Builds.{place};
-ghost use Rattle.tree_repair.specs.Levels.{index_of, indexes_of, texts_of};
+ghost use Rattle.tree_repair.specs.RepairLevels.{index_of, indexes_of, texts_of};
 ghost use Rattle.tree_repair.specs.Segments.{taken};
 
-use crate::level::Texts;
 use crate::order::{Placed, in_order};
 use crate::paths::segment_of;
+use crate::repair_level::Texts;
 use crate::runs::runs_of;
 use ens_base::{Bytes, Entry, Seq};
 use std::alloc::{AllocError, Global};

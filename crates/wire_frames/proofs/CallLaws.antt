@@ -7,11 +7,11 @@ use Rattle.ens_base.specs.declared.command.Command.{Command}
 use Rattle.ens_base.specs.declared.command.Command.TheVariants as commands
 use Rattle.ens_base.specs.declared.reply.Reply.{Reply}
 use Rattle.ens_base.specs.declared.reply.Reply.TheVariants as replies
-use Rattle.ens_fields.specs.declared.field_error.FieldError.TheVariants.{Rule}
-use Rattle.ens_fields.specs.Grammar.{IsGrammar}
-use Rattle.ens_fields.proofs.GrammarLaws.{valid_as, field_then, tested}
-use Rattle.ens_fields.proofs.NumberLaws.{byte_grammar, u64_grammar}
-use Rattle.ens_fields.proofs.FieldLaws.{version_grammar, key_grammar, value_grammar}
+use Rattle.fields.specs.declared.field_error.FieldError.TheVariants.{Rule}
+use Rattle.fields.specs.Grammar.{IsGrammar}
+use Rattle.fields.proofs.GrammarLaws.{valid_as, field_then, tested}
+use Rattle.fields.proofs.NumberLaws.{byte_grammar, u64_grammar}
+use Rattle.fields.proofs.FieldLaws.{version_grammar, key_grammar, value_grammar}
 use Rattle.ens_base.specs.Limits.{IsCommand}
 use Rattle.wire_frames.specs.Calls.{command_tag, arguments_spelling, once_at, update_at, append_at, add_at, swap_at, over_at, arguments_at, IsCall, call_spelling, call_at, IsReply, reply_tag, reply_rest, reply_spelling, value_reply_at, ok_reply_at, tagged_reply_at, reply_at}
 use Rattle.wire_frames.proofs.ReaderLaws.{both_grammar, variant_grammar, empty_grammar, choice, no_choice, tagged_grammar}

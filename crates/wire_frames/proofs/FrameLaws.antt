@@ -6,13 +6,13 @@ use Rattle.std.proofs.lemmas.Bool.Decides.{nat_tests}
 use Rattle.std.proofs.lemmas.List.{drop_all}
 use Rattle.byteorder.specs.Endian.{big_bytes, big_number}
 use Rattle.byteorder.specs.Numbers.{big_number-reads_back}
-use Rattle.ens_fields.specs.declared.field_error.FieldError.{FieldError}
-use Rattle.ens_fields.specs.declared.field_error.FieldError.TheVariants as fields
+use Rattle.fields.specs.declared.field_error.FieldError.{FieldError}
+use Rattle.fields.specs.declared.field_error.FieldError.TheVariants as fields
 use Rattle.ens_base.specs.Limits.{IsBytes}
-use Rattle.ens_fields.specs.Places.{Spells}
-use Rattle.ens_fields.proofs.ByteLaws.{Spells-then}
-use Rattle.ens_fields.proofs.GrammarLaws.{test_ok, guard_ok, ok_is, right, apart}
-use Rattle.ens_fields.proofs.NumberLaws.{byte_grammar, u16_grammar, u32_grammar}
+use Rattle.fields.specs.Places.{Spells}
+use Rattle.fields.proofs.ByteLaws.{Spells-then}
+use Rattle.fields.proofs.GrammarLaws.{test_ok, guard_ok, ok_is, right, apart}
+use Rattle.fields.proofs.NumberLaws.{byte_grammar, u16_grammar, u32_grammar}
 use Rattle.wire_frames.specs.declared.message.Message.{Message}
 use Rattle.wire_frames.specs.declared.message.Message.TheVariants as messages
 use Rattle.wire_frames.specs.declared.frame.Frame.{Frame}

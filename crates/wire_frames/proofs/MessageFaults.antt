@@ -1,14 +1,14 @@
 -- The first faults of the bodies of messages, kind by kind.
 use Rattle.std.proofs.Common.{◌≡◌, ℕ, ◌≤◌, false, eqb, arith}
 use Rattle.std.proofs.lemmas.Bool.Decides.{nat_tests}
-use Rattle.ens_fields.specs.declared.field_error.FieldError.TheVariants.{Short}
-use Rattle.ens_fields.proofs.NumberLaws.{u64_grammar}
-use Rattle.ens_fields.proofs.FieldLaws.{epoch_grammar, key_grammar}
-use Rattle.ens_fields.proofs.FirstFaultLaws.{Faults, IsRule, faultless}
-use Rattle.ens_fields.proofs.FieldFaults.{number_faults, epoch_faults, version_faults, key_faults, entry_faults, without_rule_faults}
-use Rattle.ens_fields.proofs.EntryLaws.{entry_grammar}
-use Rattle.ens_object.proofs.ObjectFaults.{object_faults}
-use Rattle.peer_fact.proofs.FactFaults.{fact_faults}
+use Rattle.fields.specs.declared.field_error.FieldError.TheVariants.{Short}
+use Rattle.fields.proofs.NumberLaws.{u64_grammar}
+use Rattle.fields.proofs.FieldLaws.{epoch_grammar, key_grammar}
+use Rattle.fields.proofs.FirstFaultLaws.{Faults, IsRule, faultless}
+use Rattle.fields.proofs.FieldFaults.{number_faults, epoch_faults, version_faults, key_faults, entry_faults, without_rule_faults}
+use Rattle.fields.proofs.EntryLaws.{entry_grammar}
+use Rattle.stored_formats.proofs.ObjectFaults.{object_faults}
+use Rattle.stored_formats.proofs.FactFaults.{fact_faults}
 use Rattle.tree_node.specs.declared.version.TreeVersion.TheVariants.{Two}
 use Rattle.tree_node.proofs.PositionLaws.{position_grammar}
 use Rattle.tree_node.proofs.NodeFaults.{position_faults}

@@ -6,21 +6,21 @@ use Rattle.ens_base.specs.declared.epoch.Version.{Version}
 use Rattle.ens_base.specs.declared.entry.Entry.{Entry}
 use Rattle.ens_base.specs.declared.command.Command.{Command}
 use Rattle.ens_base.specs.declared.reply.Reply.{Reply}
-use Rattle.ens_fields.specs.declared.field_error.FieldError.TheVariants.{Rule}
-use Rattle.ens_fields.specs.Grammar.{IsGrammar}
-use Rattle.ens_fields.specs.Versions.{epoch_spelling, version_spelling}
-use Rattle.ens_fields.specs.Strings.{key_spelling}
-use Rattle.ens_fields.specs.Entries.{entry_spelling}
-use Rattle.ens_fields.proofs.NumberLaws.{u64_grammar}
-use Rattle.ens_fields.proofs.FieldLaws.{epoch_grammar, version_grammar, key_grammar}
-use Rattle.ens_fields.proofs.EntryLaws.{entry_grammar}
-use Rattle.ens_fields.proofs.FaultLaws.{without_rule_grammar}
-use Rattle.ens_object.specs.declared.object.Object.{Object}
-use Rattle.ens_object.specs.Objects.{IsObject, object_spelling}
-use Rattle.ens_object.proofs.ObjectLaws.{object_grammar}
-use Rattle.peer_fact.specs.declared.fact.Fact.{Fact}
-use Rattle.peer_fact.specs.FactBytes.{IsFact, fact_spelling}
-use Rattle.peer_fact.proofs.FactLaws.{fact_grammar}
+use Rattle.fields.specs.declared.field_error.FieldError.TheVariants.{Rule}
+use Rattle.fields.specs.Grammar.{IsGrammar}
+use Rattle.fields.specs.Versions.{epoch_spelling, version_spelling}
+use Rattle.fields.specs.Strings.{key_spelling}
+use Rattle.fields.specs.Entries.{entry_spelling}
+use Rattle.fields.proofs.NumberLaws.{u64_grammar}
+use Rattle.fields.proofs.FieldLaws.{epoch_grammar, version_grammar, key_grammar}
+use Rattle.fields.proofs.EntryLaws.{entry_grammar}
+use Rattle.fields.proofs.FaultLaws.{without_rule_grammar}
+use Rattle.stored_formats.specs.declared.object.Object.{Object}
+use Rattle.stored_formats.specs.Objects.{IsObject, object_spelling}
+use Rattle.stored_formats.proofs.ObjectLaws.{object_grammar}
+use Rattle.stored_formats.specs.declared.fact.Fact.{Fact}
+use Rattle.stored_formats.specs.FactBytes.{IsFact, fact_spelling}
+use Rattle.stored_formats.proofs.FactLaws.{fact_grammar}
 use Rattle.tree_node.specs.declared.version.TreeVersion.TheVariants.{Two}
 use Rattle.tree_node.specs.declared.position.Position.{Position}
 use Rattle.tree_node.specs.declared.body.TreeBody.{TreeBody}

@@ -6,15 +6,15 @@ use Rattle.std.proofs.lemmas.Bool.Decides.{nat_tests}
 use Rattle.std.proofs.lemmas.List.{get_or-take}
 use Rattle.ens_base.specs.declared.command.Command.TheVariants as commands
 use Rattle.ens_base.specs.declared.reply.Reply.TheVariants as replies
-use Rattle.ens_fields.specs.declared.field_error.FieldError.{FieldError}
-use Rattle.ens_fields.specs.declared.field_error.FieldError.TheVariants.{Short, Rule}
-use Rattle.ens_fields.specs.Grammar.{IsGrammar}
-use Rattle.ens_fields.specs.Strings.{key_at}
-use Rattle.ens_fields.proofs.GrammarLaws.{Reader}
-use Rattle.ens_fields.proofs.NumberLaws.{byte_grammar, u16_grammar}
-use Rattle.ens_fields.proofs.FieldLaws.{key_grammar, value_grammar, version_grammar}
-use Rattle.ens_fields.proofs.FirstFaultLaws.{IsOne, Faults, IsRule, ok_no_err, faultless, faults_then, faults_last}
-use Rattle.ens_fields.proofs.FieldFaults.{Follows, or_else, rejects, byte_faults, number_faults, epoch_faults, version_faults, key_faults, value_faults}
+use Rattle.fields.specs.declared.field_error.FieldError.{FieldError}
+use Rattle.fields.specs.declared.field_error.FieldError.TheVariants.{Short, Rule}
+use Rattle.fields.specs.Grammar.{IsGrammar}
+use Rattle.fields.specs.Strings.{key_at}
+use Rattle.fields.proofs.GrammarLaws.{Reader}
+use Rattle.fields.proofs.NumberLaws.{byte_grammar, u16_grammar}
+use Rattle.fields.proofs.FieldLaws.{key_grammar, value_grammar, version_grammar}
+use Rattle.fields.proofs.FirstFaultLaws.{IsOne, Faults, IsRule, ok_no_err, faultless, faults_then, faults_last}
+use Rattle.fields.proofs.FieldFaults.{Follows, or_else, rejects, byte_faults, number_faults, epoch_faults, version_faults, key_faults, value_faults}
 use Rattle.tree_node.specs.declared.version.TreeVersion.TheVariants.{Two}
 use Rattle.tree_node.specs.declared.body.TreeBody.TheVariants as bodies
 use Rattle.tree_node.proofs.EntryLaws.{entries_grammar}

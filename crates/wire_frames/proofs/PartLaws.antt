@@ -1,24 +1,23 @@
 -- The grammars of the parts of messages.
-use Rattle.std.proofs.Common.{◌≡◌, ℕ, ◌+◌, ◌<◌, ◌≤◌, ◌^◌, Bool, true, false, cond, eqb, List, [], ◌∷◌, ◌++◌, length, drop, Option, None, Some, Ok, refl, sym, subst, arith}
+use Rattle.std.proofs.Common.{◌≡◌, ℕ, ◌+◌, ◌<◌, ◌≤◌, ◌^◌, Bool, true, false, cond, eqb, List, [], ◌∷◌, ◌++◌, length, drop, Option, None, Some, Ok, refl, sym, subst, arith, get_or}
 use Rattle.std.specs.Prelude.{nat_le, count_ones}
 use Rattle.std.proofs.lemmas.Bool.{eqb-true}
 use Rattle.std.proofs.lemmas.Bool.Decides.{nat_tests}
 use Rattle.byteorder.specs.Endian.{big_bytes}
-use Rattle.std.proofs.Common.{get_or}
 use Rattle.ens_base.specs.declared.entry.Entry.{Entry}
 use Rattle.ens_base.specs.declared.epoch.Epoch.{Epoch}
 use Rattle.tree_node.specs.declared.version.TreeVersion.TheVariants.{Two}
 use Rattle.tree_node.specs.declared.position.Position.{Position}
-use Rattle.ens_fields.specs.Numbers.{byte_at}
-use Rattle.ens_fields.specs.declared.field_error.FieldError.{FieldError}
-use Rattle.ens_fields.specs.declared.field_error.FieldError.TheVariants.{Rule}
-use Rattle.ens_fields.specs.Places.{Spells}
-use Rattle.ens_fields.specs.Grammar.{IsGrammar}
+use Rattle.fields.specs.Numbers.{byte_at}
+use Rattle.fields.specs.declared.field_error.FieldError.{FieldError}
+use Rattle.fields.specs.declared.field_error.FieldError.TheVariants.{Rule}
+use Rattle.fields.specs.Places.{Spells}
+use Rattle.fields.specs.Grammar.{IsGrammar}
 use Rattle.ens_base.specs.Limits.{IsKey}
-use Rattle.ens_fields.specs.Strings.{key_at}
-use Rattle.ens_fields.proofs.GrammarLaws.{Reader, bind_ok, ok_is, right, valid_as, spelled_as, field_then, field_last, tested}
-use Rattle.ens_fields.proofs.NumberLaws.{byte_grammar, u16_grammar}
-use Rattle.ens_fields.proofs.FieldLaws.{epoch_grammar, key_grammar}
+use Rattle.fields.specs.Strings.{key_at}
+use Rattle.fields.proofs.GrammarLaws.{Reader, bind_ok, ok_is, right, valid_as, spelled_as, field_then, field_last, tested}
+use Rattle.fields.proofs.NumberLaws.{byte_grammar, u16_grammar}
+use Rattle.fields.proofs.FieldLaws.{epoch_grammar, key_grammar}
 use Rattle.tree_node.specs.declared.body.TreeBody.{TreeBody}
 use Rattle.tree_node.specs.declared.body.TreeBody.TheVariants as bodies
 use Rattle.tree_node.specs.Entries.{AreDigests, digests_spelling}

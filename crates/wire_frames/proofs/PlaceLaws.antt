@@ -3,27 +3,27 @@ use Rattle.std.proofs.Common.{◌≡◌, ℕ, zero, suc, ◌+◌, ◌-◌, ◌<�
 use Rattle.std.proofs.lemmas.Bool.{ltb-true, ltb-false}
 use Rattle.std.specs.Prelude.{slice_index, count_ones}
 use Rattle.byteorder.specs.Endian.{big_number}
-use Rattle.ens_fields.specs.declared.field_error.FieldError.{FieldError}
-use Rattle.ens_fields.specs.declared.field_error.FieldError.TheVariants.{Short, Rule, Memory}
-use Rattle.ens_fields.specs.declared.fault.Fault.{Fault}
-use Rattle.ens_fields.specs.declared.fault.Fault.TheVariants.{Ended, Broken, NoMemory}
+use Rattle.fields.specs.declared.field_error.FieldError.{FieldError}
+use Rattle.fields.specs.declared.field_error.FieldError.TheVariants.{Short, Rule, Memory}
+use Rattle.fields.specs.declared.fault.Fault.{Fault}
+use Rattle.fields.specs.declared.fault.Fault.TheVariants.{Ended, Broken, NoMemory}
 use Rattle.ens_base.specs.Results.{◌>>=◌}
-use Rattle.ens_fields.specs.Reading.{Gives}
-use Rattle.ens_fields.specs.Faults.{with_rule, plain, without_rule}
-use Rattle.ens_fields.specs.Numbers.{byte_at, number_at, run_at}
-use Rattle.ens_fields.specs.Versions.{epoch_at, version_at}
-use Rattle.ens_fields.specs.Strings.{key_at, value_at}
-use Rattle.ens_fields.specs.Views.{member_at, members_at, view_at, one_view_at, two_views_at, views_at}
-use Rattle.ens_fields.specs.Entries.{entry_at}
-use Rattle.ens_fields.proofs.GrammarLaws.{Reader, right}
+use Rattle.fields.specs.Reading.{Gives}
+use Rattle.fields.specs.Faults.{with_rule, plain, without_rule}
+use Rattle.fields.specs.Numbers.{byte_at, number_at, run_at}
+use Rattle.fields.specs.Versions.{epoch_at, version_at}
+use Rattle.fields.specs.Strings.{key_at, value_at}
+use Rattle.fields.specs.Views.{member_at, members_at, view_at, one_view_at, two_views_at, views_at}
+use Rattle.fields.specs.Entries.{entry_at}
+use Rattle.fields.proofs.GrammarLaws.{Reader, right}
 use Rattle.ens_base.specs.declared.command.Command.TheVariants as commands
 use Rattle.ens_base.specs.declared.reply.Reply.TheVariants as replies
-use Rattle.peer_fact.specs.declared.fact.Change.TheVariants as changes
-use Rattle.peer_fact.specs.declared.error.FactRule.TheVariants as rules
-use Rattle.ens_object.specs.declared.error.ObjectRule.{ObjectRule}
-use Rattle.ens_object.specs.Objects.{held_at, content_at, object_at}
-use Rattle.peer_fact.specs.declared.error.FactRule.{FactRule}
-use Rattle.peer_fact.specs.FactBytes.{added_at, change_at, fields_at, fact_at}
+use Rattle.stored_formats.specs.declared.fact.Change.TheVariants as changes
+use Rattle.stored_formats.specs.declared.fact_error.FactRule.TheVariants as rules
+use Rattle.stored_formats.specs.declared.object_error.ObjectRule.{ObjectRule}
+use Rattle.stored_formats.specs.Objects.{held_at, content_at, object_at}
+use Rattle.stored_formats.specs.declared.fact_error.FactRule.{FactRule}
+use Rattle.stored_formats.specs.FactBytes.{added_at, change_at, fields_at, fact_at}
 use Rattle.tree_node.specs.declared.version.TreeVersion.TheVariants.{Two}
 use Rattle.tree_node.specs.Repeats.{list_at}
 use Rattle.tree_node.specs.Positions.{level_at, index_at, position_at}

@@ -1,14 +1,14 @@
 -- The grammars of readers made of readers, and of a choice by a tag.
 use Rattle.std.proofs.Common.{◌≡◌, ℕ, ◌+◌, ◌<◌, Bool, true, false, cond, eqb, List, [], ◌∷◌, ◌++◌, length, Result, Ok, Err, refl, sym, ap, subst, ◌∙◌}
 use Rattle.std.proofs.lemmas.Bool.{eqb-true, eqb-false}
-use Rattle.ens_fields.specs.declared.field_error.FieldError.{FieldError}
-use Rattle.ens_fields.specs.Places.{Spells}
+use Rattle.fields.specs.declared.field_error.FieldError.{FieldError}
+use Rattle.fields.specs.Places.{Spells}
 use Rattle.ens_base.specs.Results.{◌>>=◌}
-use Rattle.ens_fields.specs.Grammar.{IsGrammar}
-use Rattle.ens_fields.specs.Numbers.{byte_at}
-use Rattle.ens_fields.proofs.GrammarLaws.{Reader, bind_ok, ok_is, right, valid_as, spelled_as, field_then, field_last, nothing}
-use Rattle.ens_fields.proofs.NumberLaws.{byte_grammar}
-use Rattle.ens_fields.proofs.ViewLaws.{err_is_no}
+use Rattle.fields.specs.Grammar.{IsGrammar}
+use Rattle.fields.specs.Numbers.{byte_at}
+use Rattle.fields.proofs.GrammarLaws.{Reader, bind_ok, ok_is, right, valid_as, spelled_as, field_then, field_last, nothing}
+use Rattle.fields.proofs.NumberLaws.{byte_grammar}
+use Rattle.fields.proofs.ViewLaws.{err_is_no}
 use Rattle.wire_frames.specs.Readers.{both, made}
 
 pub both_grammar : {A B : Type 0} {IsA : A → Type 0} {IsB : B → Type 0} {a_spelling : A → List ℕ} {b_spelling : B → List ℕ} {read_a : Reader A FieldError} {read_b : Reader B FieldError}

@@ -8,18 +8,18 @@ use Rattle.ens_base.specs.declared.command.Command.{Command}
 use Rattle.ens_base.specs.declared.command.Command.TheVariants as commands
 use Rattle.ens_base.specs.declared.reply.Reply.{Reply}
 use Rattle.ens_base.specs.declared.reply.Reply.TheVariants as replies
-use Rattle.ens_fields.specs.Versions.{epoch_spelling, version_spelling}
+use Rattle.fields.specs.Versions.{epoch_spelling, version_spelling}
 use Rattle.ens_base.specs.Limits.{IsKey, IsValue, IsCommand}
-use Rattle.ens_fields.specs.Strings.{key_spelling, value_spelling}
-use Rattle.ens_fields.specs.Views.{view_spelling, AreViews, views_spelling}
-use Rattle.ens_fields.specs.Entries.{IsEntry, entry_spelling}
-use Rattle.ens_fields.proofs.MemberLoop.{length-members}
-use Rattle.ens_object.specs.declared.object.Object.{Object}
-use Rattle.ens_object.specs.Objects.{IsObject, IsContent, content_spelling, object_spelling}
-use Rattle.peer_fact.specs.declared.fact.Fact.{Fact}
-use Rattle.peer_fact.specs.declared.fact.Change.{Change}
-use Rattle.peer_fact.specs.declared.fact.Change.TheVariants as changes
-use Rattle.peer_fact.specs.FactBytes.{IsFact, IsChange, change_spelling, fact_spelling}
+use Rattle.fields.specs.Strings.{key_spelling, value_spelling}
+use Rattle.fields.specs.Views.{view_spelling, AreViews, views_spelling}
+use Rattle.fields.specs.Entries.{IsEntry, entry_spelling}
+use Rattle.fields.proofs.MemberLoop.{length-members}
+use Rattle.stored_formats.specs.declared.object.Object.{Object}
+use Rattle.stored_formats.specs.Objects.{IsObject, IsContent, content_spelling, object_spelling}
+use Rattle.stored_formats.specs.declared.fact.Fact.{Fact}
+use Rattle.stored_formats.specs.declared.fact.Change.{Change}
+use Rattle.stored_formats.specs.declared.fact.Change.TheVariants as changes
+use Rattle.stored_formats.specs.FactBytes.{IsFact, IsChange, change_spelling, fact_spelling}
 use Rattle.tree_node.specs.declared.body.TreeBody.{TreeBody}
 use Rattle.tree_node.specs.declared.body.TreeBody.TheVariants as bodies
 use Rattle.tree_node.specs.Repeats.{AreListed}

@@ -5,13 +5,13 @@ use Rattle.ens_base.specs.declared.command.Command.{Command}
 use Rattle.ens_base.specs.declared.command.Command.TheVariants as commands
 use Rattle.ens_base.specs.declared.reply.Reply.{Reply}
 use Rattle.ens_base.specs.declared.reply.Reply.TheVariants as replies
-use Rattle.ens_fields.specs.declared.field_error.FieldError.{FieldError}
-use Rattle.ens_fields.specs.declared.field_error.FieldError.TheVariants.{Rule}
+use Rattle.fields.specs.declared.field_error.FieldError.{FieldError}
+use Rattle.fields.specs.declared.field_error.FieldError.TheVariants.{Rule}
 use Rattle.ens_base.specs.Results.{◌>>=◌}
-use Rattle.ens_fields.specs.Numbers.{byte_at, number_at}
+use Rattle.fields.specs.Numbers.{byte_at, number_at}
 use Rattle.ens_base.specs.Limits.{IsVersion, IsKey, IsValue, IsCommand}
-use Rattle.ens_fields.specs.Versions.{version_spelling, version_at}
-use Rattle.ens_fields.specs.Strings.{key_spelling, key_at, value_spelling, value_at}
+use Rattle.fields.specs.Versions.{version_spelling, version_at}
+use Rattle.fields.specs.Strings.{key_spelling, key_at, value_spelling, value_at}
 use Rattle.wire_frames.specs.Readers.{both, made}
 
 abbrev pub command_tag : Command → ℕ

@@ -1,8 +1,8 @@
 -- Frames: a header of 14 bytes, and the body of a message.
 use Rattle.std.specs.Prelude.{◌≡◌, ◌≤◌, ℕ, List, [], ◌∷◌, ◌++◌, length, drop, Result, Ok, Err, ◌<◌, ◌^◌, nat_lt, nat_le, ◌+◌, ◌==◌, ◌&&◌, if◌then◌else◌, slice_index}
 use Rattle.byteorder.specs.Endian.{big_bytes, big_number}
-use Rattle.ens_fields.specs.declared.field_error.FieldError.{FieldError}
-use Rattle.ens_fields.specs.declared.field_error.FieldError.TheVariants as fields
+use Rattle.fields.specs.declared.field_error.FieldError.{FieldError}
+use Rattle.fields.specs.declared.field_error.FieldError.TheVariants as fields
 use Rattle.wire_frames.specs.declared.message.Message.{Message}
 use Rattle.wire_frames.specs.declared.frame.Frame.{Frame}
 use Rattle.wire_frames.specs.declared.error.FrameError.{FrameError}

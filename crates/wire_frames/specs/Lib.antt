@@ -5,6 +5,5 @@ pub mod Messages
 pub mod Frames
 pub mod FirstCauses
 pub mod EnsBase
-pub mod EnsObject
-pub mod PeerFact
+pub mod StoredFormats
 pub mod TreeNode

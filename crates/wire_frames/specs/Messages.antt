@@ -1,18 +1,18 @@
 -- Messages: which kind each has, and how their bodies are spelled.
 use Rattle.std.specs.Prelude.{◌≡◌, ◌≤◌, ◌<◌, ◌^◌, ℕ, List, [], ◌++◌, length, Result, Ok, Err, ◌==◌, if◌then◌else◌, count_ones}
 use Rattle.byteorder.specs.Endian.{big_bytes}
-use Rattle.ens_fields.specs.declared.field_error.FieldError.{FieldError}
-use Rattle.ens_fields.specs.declared.field_error.FieldError.TheVariants.{Rule}
-use Rattle.ens_fields.specs.Faults.{without_rule}
-use Rattle.ens_fields.specs.Numbers.{number_at}
+use Rattle.fields.specs.declared.field_error.FieldError.{FieldError}
+use Rattle.fields.specs.declared.field_error.FieldError.TheVariants.{Rule}
+use Rattle.fields.specs.Faults.{without_rule}
+use Rattle.fields.specs.Numbers.{number_at}
 use Rattle.ens_base.specs.Limits.{IsEpoch, IsVersion, IsKey}
-use Rattle.ens_fields.specs.Versions.{epoch_spelling, epoch_at, version_spelling, version_at}
-use Rattle.ens_fields.specs.Strings.{key_spelling, key_at}
-use Rattle.ens_fields.specs.Entries.{IsEntry, entry_spelling, entry_at}
-use Rattle.ens_object.specs.declared.object.Object.{Object}
-use Rattle.ens_object.specs.Objects.{IsObject, object_spelling, object_at}
-use Rattle.peer_fact.specs.declared.fact.Fact.{Fact}
-use Rattle.peer_fact.specs.FactBytes.{IsFact, fact_spelling, fact_at}
+use Rattle.fields.specs.Versions.{epoch_spelling, epoch_at, version_spelling, version_at}
+use Rattle.fields.specs.Strings.{key_spelling, key_at}
+use Rattle.fields.specs.Entries.{IsEntry, entry_spelling, entry_at}
+use Rattle.stored_formats.specs.declared.object.Object.{Object}
+use Rattle.stored_formats.specs.Objects.{IsObject, object_spelling, object_at}
+use Rattle.stored_formats.specs.declared.fact.Fact.{Fact}
+use Rattle.stored_formats.specs.FactBytes.{IsFact, fact_spelling, fact_at}
 use Rattle.tree_node.specs.declared.version.TreeVersion.TheVariants.{Two}
 use Rattle.tree_node.specs.declared.body.TreeBody.{TreeBody}
 use Rattle.tree_node.specs.declared.body.TreeBody.TheVariants as bodies

@@ -3,13 +3,13 @@
 use Rattle.std.specs.Prelude.{◌≡◌, ◌≤◌, ◌<◌, ◌^◌, ℕ, Bool, true, false, List, [], ◌∷◌, ◌++◌, length, Option, None, Some, Result, Ok, Err, nat_le, ◌==◌, if◌then◌else◌, count_ones}
 use Rattle.byteorder.specs.Endian.{big_bytes}
 use Rattle.ens_base.specs.declared.entry.Entry.{Entry}
-use Rattle.ens_fields.specs.declared.field_error.FieldError.{FieldError}
-use Rattle.ens_fields.specs.declared.field_error.FieldError.TheVariants.{Rule}
+use Rattle.fields.specs.declared.field_error.FieldError.{FieldError}
+use Rattle.fields.specs.declared.field_error.FieldError.TheVariants.{Rule}
 use Rattle.ens_base.specs.Results.{◌>>=◌}
-use Rattle.ens_fields.specs.Numbers.{byte_at, number_at}
+use Rattle.fields.specs.Numbers.{byte_at, number_at}
 use Rattle.ens_base.specs.Limits.{IsEpoch}
-use Rattle.ens_fields.specs.Versions.{epoch_spelling, epoch_at}
-use Rattle.ens_fields.specs.Strings.{key_spelling, key_at}
+use Rattle.fields.specs.Versions.{epoch_spelling, epoch_at}
+use Rattle.fields.specs.Strings.{key_spelling, key_at}
 use Rattle.tree_node.specs.declared.version.TreeVersion.TheVariants.{Two}
 use Rattle.tree_node.specs.declared.body.TreeBody.{TreeBody}
 use Rattle.tree_node.specs.declared.body.TreeBody.TheVariants as bodies

@@ -1,6 +1,6 @@
 -- Readers made of readers.
 use Rattle.std.specs.Prelude.{ℕ, List, Result, Ok}
-use Rattle.ens_fields.specs.declared.field_error.FieldError.{FieldError}
+use Rattle.fields.specs.declared.field_error.FieldError.{FieldError}
 use Rattle.ens_base.specs.Results.{◌>>=◌}
 
 -- one after the other

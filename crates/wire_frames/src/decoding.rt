@@ -9,7 +9,7 @@ use crate::frame::Frame;
 use crate::message::Message;
 use crate::take_kinds::take_message;
 use byteorder::{BigEndian, ByteOrder};
-use ens_fields::FieldError;
+use fields::FieldError;
 use std::alloc::Global;
 
 /// The length of the header, in bytes.

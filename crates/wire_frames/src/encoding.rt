@@ -7,7 +7,7 @@ use crate::error::FrameError;
 use crate::frame::Frame;
 use crate::message::Message;
 use crate::put_kinds::append_message;
-use ens_fields::{FieldError, put_u8, put_u16, put_u32};
+use fields::{FieldError, put_u8, put_u16, put_u32};
 use std::alloc::Global;
 
 /// The kind of the message, from 1 to 19.
@@ -40,7 +40,9 @@ fn kind_of(x: &Message) -> u8
 /// Appends the header and the body. Out of memory leaves a part of them.
 fn append_frame(x: &Frame, body: &[u8], out: &mut Vec<u8>) -> Result<(), FieldError>
     requires { length body.now ≤ 4096 }
-    ensures ok { OnOk result (out.new.items ≡ out.old.items ++ (0x52 ∷ 0x45 ∷ 2 ∷ kind x.now.message ∷ [] ++ big_bytes 4 x.now.from ++ big_bytes 4 x.now.to ++ big_bytes 2 (length body.now) ++ body.now)) }
+    ensures ok { OnOk result (out.new.items ≡ out.old.items
+        ++ (0x52 ∷ 0x45 ∷ 2 ∷ kind x.now.message ∷ [] ++ big_bytes 4 x.now.from ++ big_bytes 4 x.now.to
+        ++ big_bytes 2 (length body.now) ++ body.now)) }
     ensures memory { IfErr result (λ e. e ≡ FieldError.Memory) }
 {
     let start = [0x52, 0x45, 2, kind_of(&x.message)];

@@ -1,5 +1,5 @@
 ghost use Rattle.std.specs.Prelude.{◌≡◌, ◌≤◌, ℕ, List};
-ghost use Rattle.ens_fields.specs.FirstFaults.{FaultsFirst};
+ghost use Rattle.fields.specs.FirstFaults.{FaultsFirst};
 ghost use Rattle.wire_frames.specs.Messages.{kind_of, IsMessage, message_spelling, message_at};
 ghost use Rattle.wire_frames.specs.Frames.{frame_of};
 ghost use Rattle.wire_frames.specs.FirstCauses.{first_cause, header_tests, body_of};

@@ -1,9 +1,8 @@
 ghost use Rattle.std.specs.Prelude.{◌≡◌, IfOk};
 
 use ens_base::{Command, CopyError, Entry, Epoch, Key, Reply, Version, copy_entry, copy_key};
-use ens_object::{BoxedObject, Object, copy_boxed};
-use peer_fact::Fact;
 use std::alloc::Global;
+use stored_formats::{BoxedObject, Fact, Object, copy_boxed};
 use tree_node::{Position, TreeBody};
 
 /// Why a peer refuses what a message asks.

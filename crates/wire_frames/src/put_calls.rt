@@ -3,7 +3,7 @@ ghost use Rattle.ens_base.specs.Limits.{IsCommand};
 ghost use Rattle.wire_frames.specs.Calls.{arguments_spelling, command_tag as tag, IsCall, call_spelling, IsReply, reply_spelling};
 
 use ens_base::{Command, Key, Reply, Value, Version};
-use ens_fields::{FieldError, put_key, put_u8, put_u64, put_value, put_version};
+use fields::{FieldError, put_key, put_u8, put_u64, put_value, put_version};
 
 /// The tag of the command.
 fn command_tag(x: &Command) -> u8

@@ -10,9 +10,8 @@ use crate::put_parts::{
     append_optional_object,
 };
 use ens_base::{Command, Entry, Epoch, Key, Reply, Version};
-use ens_fields::{FieldError, put_epoch, put_key, put_u64, put_version};
-use ens_object::{BoxedObject, Object, put_object};
-use peer_fact::{Fact, put_fact};
+use fields::{FieldError, put_epoch, put_key, put_u64, put_version};
+use stored_formats::{BoxedObject, Fact, Object, put_fact, put_object};
 use tree_node::{Position, TreeBody, put_position};
 
 fn append_promise(ballot: &Epoch, fact: &Fact, out: &mut Vec<u8>) -> Result<(), FieldError>

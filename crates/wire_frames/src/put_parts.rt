@@ -1,15 +1,15 @@
 ghost use Rattle.std.specs.Prelude.{◌≡◌, ◌≤◌, ◌<◌, ◌++◌, [], length, count_ones, IfErr, OnOk};
 ghost use Rattle.ens_base.specs.Limits.{IsKey};
-ghost use Rattle.ens_fields.specs.Entries.{IsEntry, entry_spelling};
-ghost use Rattle.ens_object.specs.Objects.{IsObject, object_spelling};
+ghost use Rattle.fields.specs.Entries.{IsEntry, entry_spelling};
+ghost use Rattle.stored_formats.specs.Objects.{IsObject, object_spelling};
 ghost use Rattle.tree_node.specs.Entries.{AreAbove};
 ghost use Rattle.wire_frames.specs.Messages.{ObeysCause, ObeysBody};
 ghost use Rattle.wire_frames.specs.Parts.{flag_spelling, IsOptional, optional_spelling, option_key_spelling, AreChildren, IsPage, IsBody, body_spelling, IsCause, cause_spelling};
 
 use crate::message::NackCause;
 use ens_base::{Digest, Entry, Key, Seq};
-use ens_fields::{FieldError, put_entry, put_epoch, put_key, put_u8, put_u16};
-use ens_object::{BoxedObject, put_object};
+use fields::{FieldError, put_entry, put_epoch, put_key, put_u8, put_u16};
+use stored_formats::{BoxedObject, put_object};
 use tree_node::{TreeBody, append_digests, append_entries, put_position};
 
 /// Appends the flag.

@@ -1,9 +1,9 @@
 ghost use Rattle.std.specs.Prelude.{◌≡◌, ◌≤◌, length, IfOk};
-ghost use Rattle.ens_fields.specs.Reading.{Gives};
+ghost use Rattle.fields.specs.Reading.{Gives};
 ghost use Rattle.wire_frames.specs.Calls.{once_at, update_at, append_at, add_at, swap_at, over_at, arguments_at, call_at, value_reply_at, ok_reply_at, tagged_reply_at, reply_at};
 
 use ens_base::{Command, Key, Reply};
-use ens_fields::{FieldError, take_key, take_u8, take_u64, take_value, take_version};
+use fields::{FieldError, take_key, take_u8, take_u64, take_value, take_version};
 use std::alloc::Global;
 
 #[tactic(auto, unfolding(crate::specs::Calls::once_at))]

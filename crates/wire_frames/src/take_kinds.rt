@@ -1,13 +1,13 @@
 ghost use Rattle.std.specs.Prelude.{◌≡◌, ◌≤◌, length, IfOk};
-ghost use Rattle.ens_fields.specs.Reading.{Gives};
+ghost use Rattle.fields.specs.Reading.{Gives};
 ghost use Rattle.wire_frames.specs.Messages.{probe_reply_at, prepare_at, promise_at, nack_at, new_epoch_at, accepted_at, get_at, get_reply_at, message_at};
 
 use crate::message::Message;
 use crate::take_late_kinds::take_late_message;
 use crate::take_parts::{take_cause, take_optional_entry, take_optional_object};
-use ens_fields::{FieldError, take_epoch, take_key, take_u64};
-use peer_fact::take_fact;
+use fields::{FieldError, take_epoch, take_key, take_u64};
 use std::alloc::Global;
+use stored_formats::take_fact;
 
 #[tactic(auto, unfolding(crate::specs::Messages::probe_reply_at))]
 fn take_probe_reply(bytes: &[u8], at: usize) -> Result<(Message, usize), FieldError>

@@ -1,14 +1,13 @@
 ghost use Rattle.std.specs.Prelude.{◌≡◌, ◌≤◌, length, IfOk};
-ghost use Rattle.ens_fields.specs.Reading.{Gives};
+ghost use Rattle.fields.specs.Reading.{Gives};
 ghost use Rattle.wire_frames.specs.Messages.{put_at, put_reply_at, check_at, check_reply_at, tree_ask_at, tree_give_at, commit_at, beat_at, call_frame_at, answer_frame_at, late_message_at};
 
 use crate::message::Message;
 use crate::take_calls::{take_call, take_reply};
 use crate::take_parts::{take_body, take_flag, take_option_key};
-use ens_fields::{FieldError, take_epoch, take_key, take_u64, take_version};
-use ens_object::take_object;
-use peer_fact::take_fact;
+use fields::{FieldError, take_epoch, take_key, take_u64, take_version};
 use std::alloc::Global;
+use stored_formats::{take_fact, take_object};
 use tree_node::{TreeVersion, take_position};
 
 #[tactic(auto, unfolding(crate::specs::Messages::put_at))]

@@ -1,15 +1,15 @@
 ghost use Rattle.std.specs.Prelude.{◌≡◌, ◌≤◌, length, Some, IfOk};
-ghost use Rattle.ens_fields.specs.Reading.{Gives};
-ghost use Rattle.ens_fields.specs.Entries.{entry_at};
+ghost use Rattle.fields.specs.Reading.{Gives};
+ghost use Rattle.fields.specs.Entries.{entry_at};
 ghost use Rattle.wire_frames.specs.Readers.{made};
 ghost use Rattle.wire_frames.specs.Messages.{any_object_at};
 ghost use Rattle.wire_frames.specs.Parts.{flag_at, optional_at, option_key_at, children_at, page_at, inner_body_at, page_body_at, damaged_body_at, body_at, greater_at, damaged_at, cause_at};
 
 use crate::message::NackCause;
 use ens_base::{Digest, Entry, Key, Seq};
-use ens_fields::{FieldError, take_entry, take_epoch, take_key, take_u8, take_u16};
-use ens_object::{BoxedObject, take_object};
+use fields::{FieldError, take_entry, take_epoch, take_key, take_u8, take_u16};
 use std::alloc::Global;
+use stored_formats::{BoxedObject, take_object};
 use tree_node::{TreeBody, TreeVersion, take_digests, take_entries, take_position};
 
 /// Reads a flag of one byte at `at`. Returns it and the place after it.

@@ -3,14 +3,14 @@ use Rattle.std.proofs.Common.{◌≡◌, ◌≤◌, ◌+◌, ℕ, zero, suc, Som
 use Rattle.std.specs.Prelude.{drop}
 use Rattle.std.proofs.lemmas.List.{length-replicate}
 use Rattle.std.proofs.lemmas.Option.{same_Some, none-some}
-use Rattle.world_spec.proofs.HeldStores.{hashed_all}
-use Rattle.world_spec.specs.HeldStores.{Account, HasHashed}
+use Rattle.world_spec.proofs.Taken.{hashed_all}
+use Rattle.world_spec.specs.Held.{Account, HasHashed}
 use Rattle.network.specs.Mail.{most_messages}
 use Rattle.schedule_text.specs.Spelling.{MayStand, AllMayStand}
 use Rattle.schedule_text.specs.declared.event.ScheduleEvent.{ScheduleEvent}
 use Rattle.schedule_text.specs.declared.form.Form.{Form}
-use Rattle.world_spec.proofs.Fronts.{in_front_none, onward, run_front}
-use Rattle.world_spec.proofs.Growth.{IsFurther, further_front, peers_in, applied_same, run_grows}
+use Rattle.world_spec.proofs.Prefixes.{in_front_none, onward, run_prefix}
+use Rattle.world_spec.proofs.Growth.{IsFurther, further_prefix, peers_in, applied_same, run_grows}
 use Rattle.world_spec.specs.Lines.{applied, run_from, run_of_schedule}
 use Rattle.world_spec.specs.Messages.{sent_in}
 use Rattle.world_spec.specs.Runs.{Run, in_front, unhashed, opening_run}
@@ -28,7 +28,7 @@ pub running_first : (form : Form) (peers : ℕ) (view : List ℕ) (all : List Sc
     → Running form peers view all 0 first now mid
 running_first form peers view all first now mid is has = record {
   strings = (opening_run form peers view).hashed;
-  rest = onward (run_from all) (run_front all) [] (opening_run form peers view) now (run_of_schedule form peers view all) (in_front_none (run_of_schedule form peers view all)) is;
+  rest = onward (run_from all) (run_prefix all) [] (opening_run form peers view) now (run_of_schedule form peers view all) (in_front_none (run_of_schedule form peers view all)) is;
   many = rw is (length-replicate {A = _} peers _);
   within = rw is (omega arith);
   has = has;
@@ -49,7 +49,7 @@ module _ (form : Form) (peers : ℕ) (view : List ℕ) (all : List ScheduleEvent
   pub running_next : (next : Run) (later : Account) → next ≡ unhashed (applied event now) → HasHashed (applied event now).hashed mid later → sent_in next ≤ most_messages → Running form peers view all (place + 1) first next later
   running_next next later is has within = record {
     strings = old.strings ++ (applied event now).hashed;
-    rest = onward (run_from (drop (place + 1) all)) (run_front (drop (place + 1) all)) old.strings (applied event now) next (run_of_schedule form peers view all) left is;
+    rest = onward (run_from (drop (place + 1) all)) (run_prefix (drop (place + 1) all)) old.strings (applied event now) next (run_of_schedule form peers view all) left is;
     many = rw is (applied_same event now ∙ old.many);
     within = within;
     has = hashed_all old.strings (applied event now).hashed first mid later old.has has;
@@ -58,7 +58,7 @@ module _ (form : Form) (peers : ℕ) (view : List ℕ) (all : List ScheduleEvent
   -- the whole run sends and hashes no less than the next event
   pub running_longer : IsFurther (in_front old.strings (applied event now)) (run_of_schedule form peers view all)
   running_longer = subst (λ (w : Run). IsFurther (in_front old.strings (applied event now)) w) left
-      (further_front old.strings (applied event now) (run_from (drop (place + 1) all) (applied event now)) (run_grows (drop (place + 1) all) (applied event now)))
+      (further_prefix old.strings (applied event now) (run_from (drop (place + 1) all) (applied event now)) (run_grows (drop (place + 1) all) (applied event now)))
 
 -- the whole run sends and hashes no less than its opening
 pub opening_longer : (form : Form) (peers : ℕ) (view : List ℕ) (all : List ScheduleEvent) → IsFurther (opening_run form peers view) (run_of_schedule form peers view all)

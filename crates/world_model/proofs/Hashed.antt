@@ -1,9 +1,10 @@
 -- A hasher that was given one string.
 use Rattle.std.proofs.Common.{◌≡◌, ◌≤◌, ℕ, List, [], ◌∷◌, Option, refl, sym, subst}
 use Rattle.ens_base.specs.Causes.{Rose}
-use Rattle.ens_hashing.specs.Hashing.{Book, ExceedsTold, IsClash, IsKept, IsTotal, Stays, Takes}
-use Rattle.world_spec.proofs.HeldStores.{hashed_more, hashed_none}
-use Rattle.world_spec.specs.HeldStores.{Account, HasHashed, HasClashed, HasFilledAt, HasRejected}
+use Rattle.hash_book.specs.Hashing.{Book, ExceedsTold, IsClash, IsKept, IsTotal, Stays, Takes}
+use Rattle.world_spec.proofs.Taken.{hashed_more, hashed_none}
+use Rattle.world_spec.specs.Held.{Account, HasHashed}
+use Rattle.world_spec.specs.HeldLaws.{HasClashed, HasFilledAt, HasRejected}
 
 -- it took the string
 pub took_one : (x : List ℕ) (first now : Account) → Takes x first.kept now.kept → first.clashes ≤ now.clashes → first.fulls ≤ now.fulls → HasHashed (x ∷ []) first now

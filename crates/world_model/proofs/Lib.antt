@@ -11,5 +11,4 @@ pub mod Events
 pub mod StoreLines
 pub mod Hashed
 pub mod Downs
-pub mod HeldStores
 pub mod WorldSpec

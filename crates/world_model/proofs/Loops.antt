@@ -5,10 +5,10 @@ use Rattle.network.specs.Mail.{settled, is_among, oldest, most_messages}
 use Rattle.peer_state.specs.declared.event.Event.TheVariants as events
 use Rattle.wire_frames.specs.declared.frame.Frame.{Frame}
 use Rattle.wire_frames.specs.declared.message.Message.{Message}
-use Rattle.world_spec.proofs.HeldStores.{hashed_none, hashed_all}
-use Rattle.world_spec.specs.HeldStores.{Account, HasHashed}
-use Rattle.world_spec.proofs.Fronts.{in_front_none, onward, ticked_front, calmed_front}
-use Rattle.world_spec.proofs.Growth.{IsFurther, further_front, ticked_grows, calmed_grows}
+use Rattle.world_spec.proofs.Taken.{hashed_none, hashed_all}
+use Rattle.world_spec.specs.Held.{Account, HasHashed}
+use Rattle.world_spec.proofs.Prefixes.{in_front_none, onward, ticked_prefix, calmed_prefix}
+use Rattle.world_spec.proofs.Growth.{IsFurther, further_prefix, ticked_grows, calmed_grows}
 use Rattle.world_spec.proofs.Turns.{no_tick, one_tick, no_turn, one_turn, last_turn}
 use Rattle.world_spec.specs.Runs.{Run, in_front, unhashed, stepped, ticked, without_waiting, delivered, delivered_if, calmed}
 use Rattle.world_model.specs.Turns.{after_oldest, after_tick, after_turns}
@@ -49,7 +49,7 @@ module _ (peer ticks i : ℕ) (first now : World) (before after : Account) (belo
   pub ticking_next : (next : World) (later : Account) → run_of next ≡ unhashed next_tick → HasHashed next_tick.hashed after later → Begins now next → Ticking peer ticks (i + 1) first next before later
   ticking_next next later did has begins = record {
     strings = old.strings ++ next_tick.hashed;
-    rest = onward (λ w. ticked peer (ticks - (i + 1)) w) (ticked_front peer (ticks - (i + 1))) old.strings next_tick (run_of next) (ticked peer ticks (run_of first)) ticks_left did;
+    rest = onward (λ w. ticked peer (ticks - (i + 1)) w) (ticked_prefix peer (ticks - (i + 1))) old.strings next_tick (run_of next) (ticked peer ticks (run_of first)) ticks_left did;
     so_far = turns_next i (after_tick peer) (tick_alike peer) (run_of first) (run_of now) (run_of next) old.strings old.so_far did;
     has = hashed_all old.strings next_tick.hashed before after later old.has has;
     begins = begins_later first now next old.begins begins;
@@ -58,7 +58,7 @@ module _ (peer ticks i : ℕ) (first now : World) (before after : Account) (belo
   -- the whole run sends and hashes no less than the next tick
   pub ticking_longer : IsFurther (in_front old.strings next_tick) (ticked peer ticks (run_of first))
   ticking_longer = subst (λ (w : Run). IsFurther (in_front old.strings next_tick) w) ticks_left
-      (further_front old.strings next_tick (ticked peer (ticks - (i + 1)) next_tick) (ticked_grows peer (ticks - (i + 1)) next_tick))
+      (further_prefix old.strings next_tick (ticked peer (ticks - (i + 1)) next_tick) (ticked_grows peer (ticks - (i + 1)) next_tick))
 
 pub none_left : (n i : ℕ) → n ≤ i → n - i ≡ 0
 none_left n i le = omega (arith, le)
@@ -99,7 +99,7 @@ module _ (peers : List Bool) (i : ℕ) (first now : World) (before after : Accou
     pub calming_next : (next : World) (later : Account) → run_of next ≡ unhashed next_turn → HasHashed next_turn.hashed after later → Begins now next → Calming peers (i + 1) first next before later
     calming_next next later did has begins = record {
       strings = old.strings ++ next_turn.hashed;
-      rest = onward (λ w. calmed peers (most_messages - (i + 1)) w) (calmed_front peers (most_messages - (i + 1))) old.strings next_turn (run_of next) (calmed peers most_messages (run_of first)) turns_left did;
+      rest = onward (λ w. calmed peers (most_messages - (i + 1)) w) (calmed_prefix peers (most_messages - (i + 1))) old.strings next_turn (run_of next) (calmed peers most_messages (run_of first)) turns_left did;
       so_far =
           subst (λ (v : Run). in_front (old.strings ++ v.hashed) (run_of next) ≡ after_turns (i + 1) (after_oldest peers) (run_of first)) (sym turn_is)
           (turns_next i (after_oldest peers) (oldest_alike peers) (run_of first) (run_of now) (run_of next) old.strings old.so_far (did ∙ ap unhashed turn_is));
@@ -110,7 +110,7 @@ module _ (peers : List Bool) (i : ℕ) (first now : World) (before after : Accou
     -- the whole run sends and hashes no less than the next delivery
     pub calming_longer : IsFurther (in_front old.strings next_turn) (calmed peers most_messages (run_of first))
     calming_longer = subst (λ (w : Run). IsFurther (in_front old.strings next_turn) w) turns_left
-        (further_front old.strings next_turn (calmed peers (most_messages - (i + 1)) next_turn) (calmed_grows peers (most_messages - (i + 1)) next_turn))
+        (further_prefix old.strings next_turn (calmed peers (most_messages - (i + 1)) next_turn) (calmed_grows peers (most_messages - (i + 1)) next_turn))
 
   pub calming_ends : None ≡ oldest (is_among peers) (run_of now).mail → in_front old.strings (run_of now) ≡ calmed peers most_messages (run_of first)
   calming_ends is = ap (in_front old.strings) (sym (last_turn peers most_messages i (run_of now) below is)) ∙ old.rest

@@ -5,9 +5,10 @@ use Rattle.network.specs.declared.error.SendError.TheVariants as sends
 use Rattle.std.proofs.Common.{◌≡◌, ◌≤◌, ◌<◌, ◌+◌, ℕ, List, [], ◌∷◌, ◌++◌, length, refl, sym, arith}
 use Rattle.std.proofs.lemmas.List.{append-nil, append_assoc, length-append}
 use Rattle.std.proofs.lemmas.List.Elements.{All-tail}
-use Rattle.world_spec.specs.HeldStores.{StartsWith, MaySend}
+use Rattle.world_spec.specs.Held.{StartsWith}
+use Rattle.world_spec.specs.PeerSpec.{MaySend}
 use Rattle.network.specs.Mail.{Mail, posted, most_messages}
-use Rattle.leader_words.specs.declared.out.Outgoing.{Outgoing}
+use Rattle.leader_output.specs.declared.out.Outgoing.{Outgoing}
 use Rattle.wire_frames.specs.declared.frame.Frame.{Frame}
 use Rattle.world_spec.specs.Runs.{frame_from, posted_all}
 

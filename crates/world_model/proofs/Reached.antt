@@ -3,8 +3,8 @@ use Rattle.std.proofs.Common.{◌≡◌, ◌∙◌, ◌<◌, ◌-◌, ◌⊎◌,
 use Rattle.std.specs.Prelude.{IfErr, OnOk}
 use Rattle.std.specs.Result.{IsErrAnd}
 use Rattle.std.proofs.lemmas.List.{append-nil}
-use Rattle.world_spec.proofs.HeldStores.{hashed_none, rejected_further, rejected_after}
-use Rattle.world_spec.specs.HeldStores.{Account, HasHashed, StartsWith}
+use Rattle.world_spec.proofs.Taken.{hashed_none, rejected_further, rejected_after}
+use Rattle.world_spec.specs.Held.{Account, HasHashed, StartsWith}
 use Rattle.world_spec.proofs.Growth.{IsFurther, changed_hashed, changed_mail, fewer_first}
 use Rattle.world_spec.specs.Lines.{with_damage}
 use Rattle.world_spec.specs.Messages.{IsPastMessages, IsWithinMessages}

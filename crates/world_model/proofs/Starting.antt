@@ -2,8 +2,8 @@
 use Rattle.std.proofs.Common.{◌≡◌, ◌+◌, ℕ, zero, suc, Some, List, [], ◌∷◌, ◌++◌, length, map, replicate, slice_get, refl, ap, subst, ◌∙◌, sym, add-one}
 use Rattle.std.proofs.lemmas.List.{map-append, length-append}
 use Rattle.std.proofs.lemmas.Option.{same_Some, none-some}
-use Rattle.world_spec.proofs.HeldStores.{hashed_none, hashed_all}
-use Rattle.world_spec.specs.HeldStores.{Account, HasHashed, empty_stores}
+use Rattle.world_spec.proofs.Taken.{hashed_none, hashed_all}
+use Rattle.world_spec.specs.Held.{Account, HasHashed, empty_stores}
 use Rattle.peer_state.specs.declared.state.Mode.{Mode}
 use Rattle.world_spec.specs.Nodes.{Down, opening_node, opening_strings}
 use Rattle.world_spec.specs.Runs.{repeated}

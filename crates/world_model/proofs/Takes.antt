@@ -1,13 +1,15 @@
 -- A step of a peer over stores in memory is the step of its node.
 use Rattle.std.proofs.Common.{◌≡◌, ◌↔◌, ℕ, true, false, Option, None, Some, List, [], Result, Ok, Err, inl, inr, refl, ap, subst, sym, ◌∙◌, arith}
 use Rattle.std.specs.Prelude.{IsErrOf}
-use Rattle.ens_hashing.specs.Hashing.{Book}
+use Rattle.hash_book.specs.Hashing.{Book}
 use Rattle.step_plans.specs.Outboxes.{HasNotesAlone, out_of}
 use Rattle.step_plans.specs.Steps.{HasFinished, HasStopped}
 use Rattle.step_plans.specs.declared.error.PeerError.{PeerError}
 use Rattle.step_plans.specs.declared.error.PeerError.TheVariants as errors
 use Rattle.step_plans.specs.declared.outbox.Outbox.{Outbox}
-use Rattle.world_spec.specs.HeldStores.{MayCome, step_of, AllMayGo, MaySend, start_of, Account, account, HeldStores, HeldDo, HeldRefuse, IsUnplanned}
+use Rattle.world_spec.specs.PeerSpec.{MayCome, step_of, AllMayGo, MaySend, start_of}
+use Rattle.world_spec.specs.Held.{Account, account, HeldStores}
+use Rattle.world_spec.specs.HeldLaws.{HeldDo, HeldRefuse, IsUnplanned}
 use Rattle.peer_state.specs.declared.state.Mode.{Mode}
 use Rattle.peer_state.specs.declared.state.State.{State}
 use Rattle.step_plans.specs.Calls.{Call, AnswerOf}

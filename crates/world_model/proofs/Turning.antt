@@ -5,10 +5,10 @@ use Rattle.network.specs.Mail.{is_among, oldest, most_messages}
 use Rattle.peer_state.specs.declared.event.Event.TheVariants as events
 use Rattle.schedule_text.specs.declared.event.ScheduleEvent.{ScheduleEvent}
 use Rattle.schedule_text.specs.declared.event.ScheduleEvent.TheVariants.{Tick, Calm, CalmAmong}
-use Rattle.world_spec.proofs.Fronts.{effect_front, in_front_none, onward, passed_front, stepped_front}
+use Rattle.world_spec.proofs.Prefixes.{effect_prefix, in_front_none, onward, passed_prefix, stepped_prefix}
 use Rattle.world_spec.proofs.Growth.{IsFurther, effect_grows, further_later, further_same, passed_grows, stepped_grows}
-use Rattle.world_spec.proofs.HeldStores.{hashed_none}
-use Rattle.world_spec.specs.HeldStores.{Account, HasHashed}
+use Rattle.world_spec.proofs.Taken.{hashed_none}
+use Rattle.world_spec.specs.Held.{Account, HasHashed}
 use Rattle.world_spec.specs.Lines.{effect, everyone, set_of}
 use Rattle.world_spec.specs.Messages.{IsPastMessages, IsWithinMessages}
 use Rattle.world_spec.specs.Runs.{Run, calmed, delivered, delivered_if, going_on, in_front, ticked, unhashed}
@@ -74,16 +74,16 @@ abbrev pub IsAlike : (Run → Run) → Type 0
 IsAlike one = (xs : List (List ℕ)) (w : Run) → one (in_front xs w) ≡ in_front xs (one w)
 
 pub tick_alike : (peer : ℕ) → IsAlike (after_tick peer)
-tick_alike peer xs w = stepped_front xs peer events.Tick w
+tick_alike peer xs w = stepped_prefix xs peer events.Tick w
 
 pub oldest_alike : (peers : List Bool) → IsAlike (after_oldest peers)
-oldest_alike peers xs w = passed_front xs (oldest (is_among peers) w.mail) w
+oldest_alike peers xs w = passed_prefix xs (oldest (is_among peers) w.mail) w
 
 pub turn_alike : (event : ScheduleEvent) → IsAlike (turn event)
 turn_alike (Tick peer ticks) xs w = tick_alike peer xs w
 turn_alike Calm xs w = oldest_alike everyone xs w
 turn_alike (CalmAmong members) xs w = oldest_alike (set_of members) xs w
-turn_alike other xs w = effect_front other xs w
+turn_alike other xs w = effect_prefix other xs w
 
 pub turns_alike : (n : ℕ) (one : Run → Run) → IsAlike one → IsAlike (after_turns n one)
 unfolding after_turns

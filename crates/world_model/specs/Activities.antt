@@ -1,7 +1,7 @@
 -- What a peer is doing, and whether a message still reaches one.
 use Rattle.std.specs.Prelude.{ℕ, Bool, nat_lt, slice_get}
 use Rattle.std.specs.Option.{option_map_or}
-use Rattle.election.specs.declared.election.Election.TheVariants as elections
+use Rattle.phase_rules.specs.declared.election.Election.TheVariants as elections
 use Rattle.peer_state.specs.declared.state.Phase.{Phase}
 use Rattle.peer_state.specs.declared.state.Phase.TheVariants as phases
 use Rattle.world_spec.specs.Nodes.{Node, Up, Down}

@@ -4,5 +4,4 @@ pub mod Worlds
 pub mod Refusals
 pub mod Turns
 pub mod Activities
-pub mod HeldStores
 pub mod WorldSpec

@@ -1,6 +1,6 @@
 -- The peers of a world in memory, running or down.
 use Rattle.std.specs.Prelude.{◌≡◌, ℕ, Option, None, Some, false}
-use Rattle.world_spec.specs.HeldStores.{HeldStores}
+use Rattle.world_spec.specs.Held.{HeldStores}
 use Rattle.peer_core.specs.declared.peer.Peer.{Peer}
 use Rattle.peer_core.specs.declared.peer.Suspended.{Suspended}
 use Rattle.world_spec.specs.Nodes.{Node, Up, Down}

@@ -1,6 +1,7 @@
 -- How the error of a peer's step ends the run of a world.
 use Rattle.std.specs.Prelude.{ℕ, List, Option, Some, None}
-use Rattle.world_spec.specs.HeldStores.{Account, HasClashed, HasFilledAt}
+use Rattle.world_spec.specs.Held.{Account}
+use Rattle.world_spec.specs.HeldLaws.{HasClashed, HasFilledAt}
 use Rattle.network.specs.declared.error.SendError.{SendError}
 use Rattle.network.specs.declared.error.SendError.TheVariants as sends
 use Rattle.step_plans.specs.declared.error.PeerError.{PeerError}

@@ -4,7 +4,7 @@ use Rattle.network.specs.Mail.{is_among, oldest, most_messages}
 use Rattle.peer_state.specs.declared.event.Event.TheVariants as events
 use Rattle.schedule_text.specs.declared.event.ScheduleEvent.{ScheduleEvent}
 use Rattle.schedule_text.specs.declared.event.ScheduleEvent.TheVariants.{Tick, Calm, CalmAmong}
-use Rattle.world_spec.specs.HeldStores.{Account, HasHashed}
+use Rattle.world_spec.specs.Held.{Account, HasHashed}
 use Rattle.world_spec.specs.Lines.{effect, everyone, set_of}
 use Rattle.world_spec.specs.Messages.{IsWithinMessages, IsPastMessages}
 use Rattle.world_spec.specs.Runs.{Run, unhashed, stepped, delivered_if}

@@ -1,6 +1,6 @@
 -- A world as the run of the lines applied so far.
 use Rattle.std.specs.Prelude.{◌≡◌, ◌++◌, ℕ, List, [], map, Result, Ok, Err}
-use Rattle.world_spec.specs.HeldStores.{Account, HasHashed}
+use Rattle.world_spec.specs.Held.{Account, HasHashed}
 use Rattle.register_model.specs.declared.note.Note.{Note}
 use Rattle.register_model.specs.declared.printed.Printed.{Printed}
 use Rattle.step_plans.specs.Plans.{Out}

@@ -1,7 +1,7 @@
 ghost use Rattle.std.specs.Prelude.{◌≡◌, IfErr, length};
 ghost use Rattle.ens_base.specs.Lists.{is_in};
 ghost use Rattle.ens_base.specs.View.{IsPeer};
-ghost use Rattle.world_spec.specs.HeldStores.{account};
+ghost use Rattle.world_spec.specs.Held.{account};
 ghost use Rattle.peer_state.specs.declared.event.Event.TheVariants.{Call};
 ghost use Rattle.schedule_text.specs.Spelling.{MayStand};
 ghost use Rattle.world_spec.specs.Lines.{applied, call_of, counted, effect, everyone, set_of, stores_effect};
@@ -12,7 +12,7 @@ ghost use Rattle.world_model.specs.Worlds.{run_of, Adds, Begins, Reaches};
 use crate::error::WorldError;
 use crate::world::World;
 use ens_base::{Command, Key, PeerId, PeerSet};
-use ens_hashing::Hasher16;
+use hash_book::Hasher16;
 use peer_core::{CallIn, Event};
 use schedule_text::ScheduleEvent;
 use std::alloc::Global;
@@ -65,8 +65,12 @@ impl World {
         command: &Command,
     ) -> Result<(), WorldError>
         requires { IsPeer peer }
-        ensures reaches { Reaches (account H.kept H.clashes H.fulls hasher.old) (stepped peer (Call (call_of id key.now command.now)) (run_of self.old)) result (run_of self.new) (account H.kept H.clashes H.fulls hasher.new) }
-        ensures stops { IfErr result (StopsTurn (account H.kept H.clashes H.fulls hasher.old) (stepped peer (Call (call_of id key.now command.now)) (run_of self.old)) (account H.kept H.clashes H.fulls hasher.new)) }
+        ensures reaches { Reaches (account H.kept H.clashes H.fulls hasher.old)
+            (stepped peer (Call (call_of id key.now command.now)) (run_of self.old)) result (run_of self.new)
+            (account H.kept H.clashes H.fulls hasher.new) }
+        ensures stops { IfErr result (StopsTurn (account H.kept H.clashes H.fulls hasher.old)
+            (stepped peer (Call (call_of id key.now command.now)) (run_of self.old))
+            (account H.kept H.clashes H.fulls hasher.new)) }
         ensures begins { Begins self.old self.new }
     {
         let call = CallIn {

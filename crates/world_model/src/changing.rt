@@ -1,5 +1,5 @@
 ghost use Rattle.std.specs.Prelude.{◌≡◌, ◌≤◌, ◌<◌, ◌^◌, length};
-ghost use Rattle.world_spec.specs.HeldStores.{account};
+ghost use Rattle.world_spec.specs.Held.{account};
 ghost use Rattle.world_spec.specs.Lines.{with_damage};
 ghost use Rattle.world_spec.specs.Nodes.{over_stores, stopped, while_down};
 ghost use Rattle.world_spec.specs.Runs.{changed, may_deepen, mode_at, upgraded, with_deepening, with_start};
@@ -12,7 +12,7 @@ use crate::hashing::hash;
 use crate::peer::WorldPeer;
 use crate::world::World;
 use ens_base::{Bytes, Key, PeerId};
-use ens_hashing::Hasher16;
+use hash_book::Hasher16;
 use peer_core::Mode;
 use schedule_text::{StoreName, Survivor};
 use std::alloc::Global;
@@ -120,7 +120,9 @@ impl World {
         bytes: &Option<Bytes>,
     ) -> Result<(), WorldError>
         requires { (1 ≤ peer) × (peer ≤ length self.old.peers.items) }
-        ensures reaches { Reaches (account H.kept H.clashes H.fulls hasher.old) (with_damage peer key.now bytes.now (run_of self.old)) result (run_of self.new) (account H.kept H.clashes H.fulls hasher.new) }
+        ensures reaches { Reaches (account H.kept H.clashes H.fulls hasher.old)
+            (with_damage peer key.now bytes.now (run_of self.old)) result (run_of self.new)
+            (account H.kept H.clashes H.fulls hasher.new) }
         ensures begins { Begins self.old self.new }
     {
         hash(alloc, hasher, key.bytes())?;

@@ -1,6 +1,6 @@
 ghost use Rattle.std.specs.Prelude.{IfErr};
 ghost use Rattle.ens_base.specs.View.{IsPeer};
-ghost use Rattle.world_spec.specs.HeldStores.{account};
+ghost use Rattle.world_spec.specs.Held.{account};
 ghost use Rattle.network.specs.Mail.{goes, oldest, most_messages};
 ghost use Rattle.world_spec.specs.Runs.{delivered, delivered_if, ticked, calmed};
 ghost use Rattle.world_model.specs.Turns.{StopsAmong, StopsTurn, after_oldest, after_tick};
@@ -9,7 +9,7 @@ ghost use Rattle.world_model.specs.Worlds.{run_of, Begins, Reaches};
 use crate::error::WorldError;
 use crate::world::World;
 use ens_base::{PeerId, PeerSet};
-use ens_hashing::Hasher16;
+use hash_book::Hasher16;
 use network::Network;
 use peer_core::Event;
 use std::alloc::Global;
@@ -78,8 +78,12 @@ impl World {
         receiver: PeerId,
     ) -> Result<(), WorldError>
         requires { IsPeer sender × IsPeer receiver }
-        ensures reaches { Reaches (account H.kept H.clashes H.fulls hasher.old) (delivered_if (oldest (goes sender receiver) (run_of self.old).mail) (run_of self.old)) result (run_of self.new) (account H.kept H.clashes H.fulls hasher.new) }
-        ensures stops { IfErr result (StopsTurn (account H.kept H.clashes H.fulls hasher.old) (delivered_if (oldest (goes sender receiver) (run_of self.old).mail) (run_of self.old)) (account H.kept H.clashes H.fulls hasher.new)) }
+        ensures reaches { Reaches (account H.kept H.clashes H.fulls hasher.old)
+            (delivered_if (oldest (goes sender receiver) (run_of self.old).mail) (run_of self.old)) result
+            (run_of self.new) (account H.kept H.clashes H.fulls hasher.new) }
+        ensures stops { IfErr result (StopsTurn (account H.kept H.clashes H.fulls hasher.old)
+            (delivered_if (oldest (goes sender receiver) (run_of self.old).mail) (run_of self.old))
+            (account H.kept H.clashes H.fulls hasher.new)) }
         ensures begins { Begins self.old self.new }
     {
         match self.network.oldest_between(sender, receiver) {
@@ -97,7 +101,9 @@ impl World {
         hasher: &mut H,
         peers: &PeerSet,
     ) -> Result<(), WorldError>
-        ensures reaches { Reaches (account H.kept H.clashes H.fulls hasher.old) (calmed peers.now most_messages (run_of self.old)) result (run_of self.new) (account H.kept H.clashes H.fulls hasher.new) }
+        ensures reaches { Reaches (account H.kept H.clashes H.fulls hasher.old)
+            (calmed peers.now most_messages (run_of self.old)) result (run_of self.new)
+            (account H.kept H.clashes H.fulls hasher.new) }
         ensures stops { IfErr result (StopsAmong most_messages (after_oldest peers.now) (run_of self.old) (account H.kept H.clashes H.fulls hasher.old) (account H.kept H.clashes H.fulls hasher.new)) }
         ensures begins { Begins self.old self.new }
     {

@@ -1,10 +1,10 @@
 ghost use Rattle.std.specs.Prelude.{◌∷◌, [], IfErr, OnOk};
-ghost use Rattle.world_spec.specs.HeldStores.{HasHashed, account};
+ghost use Rattle.world_spec.specs.Held.{HasHashed, account};
 ghost use Rattle.world_model.specs.Refusals.{IsCutOff};
 
 use crate::error::WorldError;
 use ens_base::Bytes;
-use ens_hashing::{HashError, Hasher16};
+use hash_book::{HashError, Hasher16};
 use std::alloc::Global;
 
 /// Hashes a string that a line names.

@@ -1,5 +1,5 @@
 ghost use Rattle.std.specs.Prelude.{◌≡◌};
-ghost use Rattle.world_spec.specs.HeldStores.{empty_stores as no_stores};
+ghost use Rattle.world_spec.specs.Held.{empty_stores as no_stores};
 ghost use Rattle.world_spec.specs.Nodes.{is_down as is_down_node};
 ghost use Rattle.world_model.specs.MemNodes.{node_by, stores_by};
 ghost use Rattle.world_model.specs.declared.node.MemNode.TheVariants.{Down};

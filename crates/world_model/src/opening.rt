@@ -1,6 +1,6 @@
 ghost use Rattle.std.specs.Prelude.{◌≡◌, ◌≤◌, length, map, replicate, IfOk, IfErr, OnOk};
 ghost use Rattle.ens_base.specs.View.{IsPeer};
-ghost use Rattle.world_spec.specs.HeldStores.{account, empty_stores, HasHashed};
+ghost use Rattle.world_spec.specs.Held.{account, empty_stores, HasHashed};
 ghost use Rattle.world_spec.specs.Nodes.{opening_node, opening_strings, Down};
 ghost use Rattle.world_spec.specs.Runs.{opening_mode, opening_run, repeated, sealing_first, tree_first, unhashed};
 ghost use Rattle.world_spec.specs.Steps.{StartsAs};
@@ -13,7 +13,7 @@ use crate::error::WorldError;
 use crate::peer::WorldPeer;
 use crate::world::World;
 use ens_base::{PeerId, PeerSet, View};
-use ens_hashing::Hasher16;
+use hash_book::Hasher16;
 use history_scribe::Scribe;
 use network::Network;
 use peer_core::Mode;
@@ -108,8 +108,12 @@ impl World {
     ) -> Result<World, WorldError>
         requires { schedule.now.peers ≤ 31 }
         ensures ok { IfOk result (λ w. run_of w ≡ unhashed (opening_run schedule.now.form schedule.now.peers schedule.now.view)) }
-        ensures hashed { OnOk result (HasHashed (opening_run schedule.now.form schedule.now.peers schedule.now.view).hashed (account H.kept H.clashes H.fulls hasher.old) (account H.kept H.clashes H.fulls hasher.new)) }
-        ensures error { IfErr result (IsCutOff (opening_run schedule.now.form schedule.now.peers schedule.now.view).hashed (account H.kept H.clashes H.fulls hasher.old) (account H.kept H.clashes H.fulls hasher.new)) }
+        ensures hashed { OnOk result (HasHashed (opening_run schedule.now.form schedule.now.peers
+            schedule.now.view).hashed (account H.kept H.clashes H.fulls hasher.old)
+            (account H.kept H.clashes H.fulls hasher.new)) }
+        ensures error { IfErr result (IsCutOff (opening_run schedule.now.form schedule.now.peers
+            schedule.now.view).hashed (account H.kept H.clashes H.fulls hasher.old)
+            (account H.kept H.clashes H.fulls hasher.new)) }
     {
         Ok(World {
             opening: schedule.view,

@@ -1,6 +1,7 @@
 ghost use Rattle.std.specs.Prelude.{◌≡◌, ◌⊎◌, ◌<◌, ◌≤◌, ◌+◌, map, length, All, OnOk, IfErr, IsErrOf};
 ghost use Rattle.ens_base.specs.View.{IsPeer};
-ghost use Rattle.world_spec.specs.HeldStores.{StartsWith, MaySend};
+ghost use Rattle.world_spec.specs.Held.{StartsWith};
+ghost use Rattle.world_spec.specs.PeerSpec.{MaySend};
 ghost use Rattle.network.specs.Mail.{most_messages};
 ghost use Rattle.world_spec.specs.Runs.{frame_from, posted_all};
 

@@ -10,7 +10,11 @@ use step_plans::AnswerOut;
 fn answer_line(event: u64, answer: AnswerOut) -> Printed
     ensures { result ≡ line_of_answer event answer }
 {
-    let AnswerOut { from: _, id, reply } = answer;
+    let AnswerOut {
+        caller: _,
+        id,
+        reply,
+    } = answer;
     Printed::Answer(Answer { id, event, reply })
 }
 

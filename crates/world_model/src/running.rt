@@ -1,13 +1,13 @@
 ghost use Rattle.std.specs.Prelude.{OnOk};
-ghost use Rattle.ens_hashing.specs.Hashing.{KeepsNothing};
-ghost use Rattle.world_spec.specs.HeldStores.{account, HasNoClash};
+ghost use Rattle.hash_book.specs.Hashing.{KeepsNothing};
+ghost use Rattle.world_spec.specs.Held.{account, HasNoClash};
 ghost use Rattle.schedule_text.specs.Spelling.{IsSchedule};
 ghost use Rattle.world_spec.specs.Lines.{run_of_schedule};
 ghost use Rattle.world_model.specs.Worlds.{RunReaches};
 
 use crate::error::WorldError;
 use crate::world::World;
-use ens_hashing::Hasher16;
+use hash_book::Hasher16;
 use register_model::{History, Printed};
 use schedule_text::Schedule;
 use std::alloc::{AllocError, Global};
@@ -32,7 +32,9 @@ impl World {
         hasher: &mut H,
     ) -> Result<World, WorldError>
         requires { IsSchedule schedule.now }
-        ensures reaches { RunReaches (account H.kept H.clashes H.fulls hasher.old) (run_of_schedule schedule.now.form schedule.now.peers schedule.now.view schedule.now.events) result (account H.kept H.clashes H.fulls hasher.new) }
+        ensures reaches { RunReaches (account H.kept H.clashes H.fulls hasher.old)
+            (run_of_schedule schedule.now.form schedule.now.peers schedule.now.view schedule.now.events) result
+            (account H.kept H.clashes H.fulls hasher.new) }
         ensures apart { KeepsNothing (H.kept hasher.old) → OnOk result (HasNoClash (run_of_schedule schedule.now.form schedule.now.peers schedule.now.view schedule.now.events).hashed) }
     {
         let mut world = World::open(rt, alloc, schedule, hasher)?;

@@ -1,6 +1,7 @@
 ghost use Rattle.std.specs.Prelude.{IfErr};
 ghost use Rattle.ens_base.specs.View.{IsPeer};
-ghost use Rattle.world_spec.specs.HeldStores.{account, MayCome, AllMayGo};
+ghost use Rattle.world_spec.specs.Held.{account};
+ghost use Rattle.world_spec.specs.PeerSpec.{MayCome, AllMayGo};
 ghost use Rattle.step_plans.specs.Outboxes.{out_of};
 ghost use Rattle.world_spec.specs.Runs.{stepped};
 ghost use Rattle.world_model.specs.Turns.{StopsTurn};
@@ -11,7 +12,7 @@ use crate::posting::post_all;
 use crate::reporting::lines_of;
 use crate::world::World;
 use ens_base::PeerId;
-use ens_hashing::Hasher16;
+use hash_book::Hasher16;
 use peer_core::Event;
 use std::alloc::Global;
 use std::thread::Threads;

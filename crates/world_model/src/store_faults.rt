@@ -1,17 +1,16 @@
 ghost use Rattle.std.specs.Prelude.{◌≡◌, ◌≤◌, ◌<◌, ◌^◌, IfErr, OnOk, OnErr};
-ghost use Rattle.node_faults.specs.Faults.{replaced_if};
+ghost use Rattle.world_stores.specs.NodeFaults.{replaced_if};
 ghost use Rattle.world_spec.specs.Stores.{failing, inner_named, inner_spoiled, leaves_of as left_as, segment_spoiled, spoiled, taken_back};
 
 use crate::error::WorldError;
 use crate::node::MemStores;
 use ens_base::{Bytes, Key};
-use ens_outside::{Leaves, StoreError};
-use node_faults::version_stored;
+use environment::{Leaves, StoreError};
 use schedule_text::{StoreName, Survivor};
 use std::alloc::Global;
 use synctree::{Tree, TreeMark};
 use tree_node::TreeVersion;
-use world_stores::HeldNodes;
+use world_stores::{HeldNodes, version_stored};
 
 /// Returns what a failed write leaves.
 fn leaves_of(survivor: Survivor) -> Leaves
@@ -82,7 +81,7 @@ pub(crate) fn damage(
 {
     let (mark, mut nodes) = take_nodes(alloc, &mut stores.tree);
     let version = version_stored(&nodes);
-    let damaged = node_faults::damage(alloc, &mut nodes, version, key, bytes);
+    let damaged = world_stores::damage(alloc, &mut nodes, version, key, bytes);
     stores.tree = Tree::join(mark, nodes);
     match damaged {
         Ok(()) => Ok(()),
@@ -107,7 +106,7 @@ fn inner_in(
     if level >= version.levels() {
         return Ok(());
     }
-    node_faults::inner(alloc, nodes, version, level, index, bytes)
+    world_stores::inner(alloc, nodes, version, level, index, bytes)
 }
 
 /// Replaces the bytes of the inner node at this level and index, or removes it. Changes nothing at a

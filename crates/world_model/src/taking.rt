@@ -1,6 +1,7 @@
 ghost use Rattle.std.specs.Prelude.{◌≡◌, IfOk, IfErr, OnOk};
 ghost use Rattle.ens_base.specs.View.{IsPeer};
-ghost use Rattle.world_spec.specs.HeldStores.{account, empty_stores as no_stores, MayCome, AllMayGo};
+ghost use Rattle.world_spec.specs.Held.{account, empty_stores as no_stores};
+ghost use Rattle.world_spec.specs.PeerSpec.{MayCome, AllMayGo};
 ghost use Rattle.step_plans.specs.Outboxes.{out_of};
 ghost use Rattle.world_spec.specs.Nodes.{is_down as is_down_node, hashed_by_start, stopped, taken, Down};
 ghost use Rattle.world_spec.specs.Steps.{ComesTo, StartsAs};
@@ -11,7 +12,7 @@ use crate::error::WorldError;
 use crate::node::{MemNode, empty_stores};
 use crate::peer::WorldPeer;
 use ens_base::{PeerId, View};
-use ens_hashing::Hasher16;
+use hash_book::Hasher16;
 use peer_core::{Event, Mode, Peer, StartError};
 use std::alloc::Global;
 use std::thread::Threads;
@@ -101,7 +102,9 @@ impl WorldPeer {
         event: Event,
     ) -> Result<Outbox, WorldError>
         requires { MayCome self.old.me event }
-        ensures taken { IfOk result (λ out. ComesTo (account H.kept H.clashes H.fulls hasher.old) (account H.kept H.clashes H.fulls hasher.new) (taken self.old.me event (node_of self.old)) (node_of self.new) (out_of out) out.notes.items) }
+        ensures taken { IfOk result (λ out. ComesTo (account H.kept H.clashes H.fulls hasher.old)
+            (account H.kept H.clashes H.fulls hasher.new) (taken self.old.me event (node_of self.old))
+            (node_of self.new) (out_of out) out.notes.items) }
         ensures may_go { IfOk result (λ out. AllMayGo self.old.me (out_of out)) }
         ensures me { self.new.me ≡ self.old.me }
         ensures error { IfErr result (IsCutOff (taken self.old.me event (node_of self.old)).hashed (account H.kept H.clashes H.fulls hasher.old) (account H.kept H.clashes H.fulls hasher.new)) }

@@ -3,9 +3,9 @@ ghost use Rattle.world_model.specs.Activities.{activity_by, activity_in};
 
 use crate::node::MemNode;
 use crate::world::World;
-use election::Election;
 use ens_base::{PeerId, PeerSet};
 use peer_state::Phase;
+use phase_rules::Election;
 
 /// What a peer is doing: it is down, or runs in a phase. Preparing and starting are the two parts of
 /// an election.

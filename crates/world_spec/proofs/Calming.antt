@@ -9,7 +9,7 @@ use Rattle.peer_state.specs.declared.event.Event.TheVariants as events
 use Rattle.schedule_text.specs.declared.event.ScheduleEvent.{ScheduleEvent}
 use Rattle.schedule_text.specs.declared.form.Form.{Form}
 use Rattle.schedule_text.specs.declared.event.ScheduleEvent.TheVariants.{Call, Tick, Deliver, Pass, Lose, Calm, CalmAmong, Change, Stop, Start, Upgrade, Deepen, Spoil, Damage, Inner, Revert, Fail}
-use Rattle.wire_frames.specs.declared.frame.Frame.{Frame}
+use Rattle.phase_rows.specs.WireFrames.{Frame}
 use Rattle.world_spec.specs.Lines.{call_of, everyone, set_of, effect, applied, run_from, run_of_schedule}
 use Rattle.world_spec.specs.Nodes.{Node, taken, started, stopped, over_stores, while_down}
 use Rattle.world_spec.specs.Runs.{Run, opening_run, mode_at, place_of, frame_from, posted_all, stepped_at, stepped, changed, may_deepen, deepened, with_deepening, ticked, received, without_waiting, received_if, delivered, delivered_if, going_on, calmed}

@@ -10,7 +10,7 @@ use Rattle.schedule_text.specs.declared.event.ScheduleEvent.TheVariants.{Call, T
 use Rattle.schedule_text.specs.declared.form.Form.{Form}
 use Rattle.tree_node.specs.declared.version.TreeVersion.{TreeVersion}
 use Rattle.tree_node.specs.declared.version.TreeVersion.TheVariants.{One, Two}
-use Rattle.wire_frames.specs.declared.frame.Frame.{Frame}
+use Rattle.phase_rows.specs.WireFrames.{Frame}
 use Rattle.world_spec.specs.Deepening.{deepens, has_deepened, tree_by_lines}
 use Rattle.world_spec.specs.Lines.{call_of, everyone, set_of, applied, run_from, run_of_schedule}
 use Rattle.world_spec.specs.Nodes.{Node, all_down, started, stopped, over_stores, while_down}

@@ -1,12 +1,12 @@
 -- A step or a start of a peer over stores in memory is that of its node.
 use Rattle.std.proofs.Common.{◌≡◌, ◌⊎◌, ℕ, List, [], Option, inl, inr, refl, sym, ap, subst}
-use Rattle.ens_hashing.specs.Hashing.{Book}
-use Rattle.held_stores.proofs.Determined.{determined}
-use Rattle.held_stores.proofs.Taken.{hashed_none}
-use Rattle.held_stores.specs.Held.{Held, HeldStores, Account, account, HasHashed}
-use Rattle.held_stores.specs.Laws.{HeldDo, HeldRefuse, IsUnplanned, IsCutOff, IsRun, held_with, strings_by}
-use Rattle.held_stores.specs.Runs.{Ended}
-use Rattle.held_stores.specs.PeerPlan.{step_of, start_of}
+use Rattle.hash_book.specs.Hashing.{Book}
+use Rattle.world_spec.proofs.HeldDetermined.{determined}
+use Rattle.world_spec.proofs.Taken.{hashed_none}
+use Rattle.world_spec.specs.Held.{Held, HeldStores, Account, account, HasHashed}
+use Rattle.world_spec.specs.HeldLaws.{HeldDo, HeldRefuse, IsUnplanned, IsCutOff, IsRun, held_with, strings_by}
+use Rattle.world_spec.specs.HeldRuns.{Ended}
+use Rattle.world_spec.specs.PeerSpec.{step_of, start_of}
 use Rattle.peer_state.specs.declared.event.Event.{Event}
 use Rattle.peer_state.specs.declared.state.Mode.{Mode}
 use Rattle.peer_state.specs.declared.state.State.{State}

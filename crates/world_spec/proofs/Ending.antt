@@ -1,13 +1,13 @@
 -- What the run of a plan over stores in memory comes to.
 use Rattle.std.proofs.Common.{◌≡◌, ℕ, List, [], ◌∷◌, ◌++◌, Option, None, Some, Result, Ok, Err, Bool, true, false, refl, sym, subst, arith}
-use Rattle.ens_outside.specs.Stores.{NodeCall, Read, Write, Top, SetTop}
-use Rattle.ens_outside.specs.declared.memory.failing_call.Leaves.{Leaves}
-use Rattle.held_stores.specs.Answers.{answered, looked, entered, whole, done}
-use Rattle.held_stores.specs.Held.{Held, HeldStores, unless_failing}
-use Rattle.held_stores.specs.Runs.{Ended, run, either}
-use Rattle.held_stores.specs.Walks.{End, Came, Broke, Failed, Walk, walk, nodes_failed}
-use Rattle.held_stores.proofs.PeerPlan.{IsInside, get_inside, insert_inside, position_inside, IsWhole, scan_whole, rebuild_whole}
-use Rattle.held_stores.specs.PeerPlan.{IsStepCall, IsSound, IsInTree, Reaches, first_state, opening_saved, position_plan}
+use Rattle.environment.specs.Stores.{NodeCall, Read, Write, Top, SetTop}
+use Rattle.environment.specs.declared.memory.failing_call.Leaves.{Leaves}
+use Rattle.world_spec.specs.Answers.{answered, looked, entered, whole, done}
+use Rattle.world_spec.specs.Held.{Held, HeldStores, unless_failing}
+use Rattle.world_spec.specs.HeldRuns.{Ended, run, either}
+use Rattle.world_spec.specs.Walks.{End, Came, Broke, Failed, Walk, walk, nodes_failed}
+use Rattle.world_spec.proofs.PeerSpec.{IsInside, get_inside, insert_inside, position_inside, IsWhole, scan_whole, rebuild_whole}
+use Rattle.world_spec.specs.PeerSpec.{IsStepCall, IsSound, IsInTree, Reaches, first_state, opening_saved, position_plan}
 use Rattle.peer_state.specs.declared.state.Mode.{Mode}
 use Rattle.peer_state.specs.declared.state.State.{State}
 use Rattle.step_plans.specs.Calls.{Call, Load, Save, FreshTree, OpenTree, Root, Find, Enter, ScanTree, ReadNode, Install, Fetch, Put, Hash, AnswerOf}
@@ -20,11 +20,11 @@ use Rattle.tree_node.specs.declared.version.TreeVersion.{TreeVersion}
 use Rattle.tree_node.specs.declared.version.TreeVersion.TheVariants.{Two}
 use Rattle.synctree.specs.Plans as tree
 use Rattle.synctree.specs.Trees.{get_plan, insert_plan}
-use Rattle.tree_maps.specs.Sixteen.{form_of}
+use Rattle.synctree.specs.Sixteen.{form_of}
 use Rattle.tree_node.specs.Positions.{IsPosition}
 use Rattle.tree_node.specs.declared.position.Position.{Position}
-use Rattle.node_faults.specs.TreeRepair.{rebuild_plan}
-use Rattle.held_stores.specs.TreeVerify.{scan_plan}
+use Rattle.world_stores.specs.TreeRepair.{rebuild_plan}
+use Rattle.world_spec.specs.TreeRepair.{scan_plan}
 use Rattle.world_spec.specs.Laws.{IsFinished, NoneWaits}
 use Rattle.world_spec.specs.Nodes.{Node, Up, opening_node}
 use Rattle.world_stores.specs.Nodes.{Nodes, refusal, answer, after}

@@ -8,9 +8,9 @@ use Rattle.peer_state.specs.declared.event.Event.{Event}
 use Rattle.peer_state.specs.declared.event.Event.TheVariants as events
 use Rattle.schedule_text.specs.declared.event.ScheduleEvent.{ScheduleEvent}
 use Rattle.schedule_text.specs.declared.event.ScheduleEvent.TheVariants.{Call, Tick, Deliver, Pass, Lose, Calm, CalmAmong, Change, Stop, Start, Upgrade, Deepen, Spoil, Damage, Inner, Revert, Fail}
-use Rattle.wire_frames.specs.declared.frame.Frame.{Frame}
-use Rattle.held_stores.proofs.Taken.{starts_here, starts_later}
-use Rattle.held_stores.specs.Held.{StartsWith}
+use Rattle.phase_rows.specs.WireFrames.{Frame}
+use Rattle.world_spec.proofs.Taken.{starts_here, starts_later}
+use Rattle.world_spec.specs.Held.{StartsWith}
 use Rattle.world_spec.specs.Lines.{call_of, everyone, set_of, with_damage, effect, applied, run_from}
 use Rattle.world_spec.specs.Messages.{sent_in}
 use Rattle.world_spec.specs.Nodes.{Node, Taken, taken, started, stopped, over_stores, while_down}
@@ -245,8 +245,8 @@ run_grows [] w = further_same w
 run_grows (event ∷ more) w = further_later w (applied event w) (run_from more (applied event w)) (applied_grows event w) (run_grows more (applied event w))
 
 -- the same strings in front of both runs
-pub further_front : (xs : List (List ℕ)) (near far : Run) → IsFurther near far → IsFurther (in_front xs near) (in_front xs far)
-further_front xs near far further = record {
+pub further_prefix : (xs : List (List ℕ)) (near far : Run) → IsFurther near far → IsFurther (in_front xs near) (in_front xs far)
+further_prefix xs near far further = record {
   sent = further.sent;
   hashed = (further.hashed.0, ap (λ h. xs ++ h) further.hashed.1 ∙ sym (append_assoc xs near.hashed further.hashed.0));
 }

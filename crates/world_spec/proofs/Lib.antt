@@ -1,10 +1,15 @@
+pub mod Taken
+pub mod Books
+pub mod Walking
+pub mod Answering
+pub mod HeldDetermined
 pub mod Calming
 pub mod Deepening
 pub mod Determined
 pub mod Ending
 pub mod Growth
-pub mod Fronts
+pub mod Prefixes
 pub mod Obeying
 pub mod Sealing
 pub mod Turns
-pub mod HeldStores
+pub mod PeerSpec

@@ -4,14 +4,14 @@ use Rattle.std.specs.Prelude.{All, IfSome, nat_lt, if◌then◌else◌, slice_ge
 use Rattle.std.proofs.lemmas.List.Elements.{All-nil, All-cons, All-head, All-tail, All-push}
 use Rattle.std.proofs.lemmas.Option.{none-some, same_Some}
 use Rattle.ens_base.specs.View.{IsPeer}
-use Rattle.held_stores.specs.Held.{Held, HeldStores, empty_stores}
-use Rattle.held_stores.specs.Laws.{held_with}
-use Rattle.held_stores.specs.Runs.{Ended}
-use Rattle.step_plans.specs.LeaderWords.{Outgoing}
+use Rattle.world_spec.specs.Held.{Held, HeldStores, empty_stores}
+use Rattle.world_spec.specs.HeldLaws.{held_with}
+use Rattle.world_spec.specs.HeldRuns.{Ended}
+use Rattle.step_plans.specs.LeaderOutput.{Outgoing}
 use Rattle.network.specs.Mail.{Mail, MayBeSent, posted, settled, goes, is_among, oldest, most_messages}
-use Rattle.peer_fact.specs.declared.saved.SavedFact.{SavedFact}
-use Rattle.held_stores.proofs.PeerPlan.{steps_keep}
-use Rattle.held_stores.specs.PeerPlan.{step_of, MayCome, IsOwn, MaySend, AllMayGo, Reaches, start_of, opened, seals_opening, continued, continued_in, is_whole, migrated, reseals_if, scanned}
+use Rattle.stored_formats.specs.declared.saved.SavedFact.{SavedFact}
+use Rattle.world_spec.proofs.PeerSpec.{steps_keep}
+use Rattle.world_spec.specs.PeerSpec.{step_of, MayCome, IsOwn, MaySend, AllMayGo, Reaches, start_of, opened, seals_opening, continued, continued_in, is_whole, migrated, reseals_if, scanned}
 use Rattle.peer_state.specs.declared.event.Event.{Event}
 use Rattle.peer_state.specs.declared.event.Event.TheVariants as events
 use Rattle.peer_state.specs.declared.state.Mode.{Mode}
@@ -25,7 +25,7 @@ use Rattle.schedule_text.specs.declared.event.ScheduleEvent.TheVariants.{Call, T
 use Rattle.tree_node.specs.declared.body.Scan.{Scan}
 use Rattle.tree_node.specs.declared.version.TreeVersion.{TreeVersion}
 use Rattle.tree_node.specs.declared.version.TreeVersion.TheVariants.{One, Two}
-use Rattle.wire_frames.specs.declared.frame.Frame.{Frame}
+use Rattle.phase_rows.specs.WireFrames.{Frame}
 use Rattle.world_spec.proofs.Ending.{EndsIn, run_reaches}
 use Rattle.world_spec.specs.Lines.{call_of, everyone, set_of, effect, applied, run_from, run_of_schedule}
 use Rattle.world_spec.specs.Nodes.{Node, Up, Down, Taken, taken, taken_by, taken_of, run_over, started, stopped, over_stores, while_down, opening_node}

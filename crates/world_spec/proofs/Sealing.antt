@@ -7,7 +7,7 @@ use Rattle.std.proofs.lemmas.List.{length-set, get_or-set_same, get_or-set_other
 use Rattle.ens_base.specs.PeerSet.{holds}
 use Rattle.ens_base.specs.View.{IsPeer}
 use Rattle.network.specs.Mail.{settled, goes, is_among, oldest, most_messages}
-use Rattle.held_stores.proofs.PeerPlan.{those_at}
+use Rattle.world_spec.proofs.PeerSpec.{those_at}
 use Rattle.peer_state.specs.declared.event.Event.{Event}
 use Rattle.peer_state.specs.declared.event.Event.TheVariants as events
 use Rattle.phase_rows.specs.Peers.{joined}
@@ -17,7 +17,7 @@ use Rattle.schedule_text.specs.Starts.{upgrades, has_sealing}
 use Rattle.schedule_text.specs.declared.event.ScheduleEvent.{ScheduleEvent}
 use Rattle.schedule_text.specs.declared.event.ScheduleEvent.TheVariants.{Call, Tick, Deliver, Pass, Lose, Calm, CalmAmong, Change, Stop, Start, Upgrade, Deepen, Spoil, Damage, Inner, Revert, Fail}
 use Rattle.schedule_text.specs.declared.form.Form.{Form}
-use Rattle.wire_frames.specs.declared.frame.Frame.{Frame}
+use Rattle.phase_rows.specs.WireFrames.{Frame}
 use Rattle.world_spec.specs.Lines.{call_of, everyone, set_of, applied, run_from, run_of_schedule}
 use Rattle.world_spec.specs.Nodes.{Node, started, stopped, over_stores, while_down}
 use Rattle.world_spec.specs.Runs.{Run, opening_run, sealing_first, mode_at, place_of, stepped_at, stepped, changed_at, changed, may_deepen, deepened, with_deepening, ticked, received, without_waiting, received_if, delivered, delivered_if, going_on, calmed}

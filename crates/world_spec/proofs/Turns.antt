@@ -4,7 +4,7 @@ use Rattle.std.specs.Prelude.{Bool}
 use Rattle.network.specs.Mail.{is_among, oldest}
 use Rattle.peer_state.specs.declared.event.Event.TheVariants as events
 use Rattle.world_spec.specs.Runs.{Run, stepped, ticked, delivered, going_on, calmed}
-use Rattle.held_stores.proofs.PeerPlan.{one_turn as one_more}
+use Rattle.world_spec.proofs.PeerSpec.{one_turn as one_more}
 
 pub no_tick : (peer : ℕ) (w : Run) → ticked peer 0 w ≡ w
 unfolding ticked

@@ -1,7 +1,7 @@
 -- How the step of a peer ends.
 use Rattle.std.specs.Prelude.{◌≡◌, None}
-use Rattle.held_stores.specs.Held.{HeldStores}
-use Rattle.held_stores.specs.Runs.{Ended}
+use Rattle.world_spec.specs.Held.{HeldStores}
+use Rattle.world_spec.specs.HeldRuns.{Ended}
 use Rattle.peer_state.specs.declared.state.State.{State}
 use Rattle.step_plans.specs.Plans.{Out, Finished}
 

@@ -1,3 +1,8 @@
+pub mod Held
+pub mod Walks
+pub mod Answers
+pub mod HeldRuns
+pub mod HeldLaws
 pub mod Stores
 pub mod Nodes
 pub mod Steps
@@ -6,4 +11,5 @@ pub mod Runs
 pub mod Messages
 pub mod Lines
 pub mod Deepening
-pub mod HeldStores
+pub mod PeerSpec
+pub mod TreeRepair

@@ -1,9 +1,9 @@
 -- A peer of a world over its stores in memory: its steps, and how it stops and starts.
 use Rattle.std.specs.Prelude.{ℕ, Bool, true, false, ◌&&◌, List, [], ◌∷◌}
-use Rattle.held_stores.specs.Held.{Held, HeldStores, empty_stores}
-use Rattle.held_stores.specs.Laws.{held_with}
-use Rattle.held_stores.specs.Runs.{Ended, run}
-use Rattle.held_stores.specs.PeerPlan.{step_of, start_of}
+use Rattle.world_spec.specs.Held.{Held, HeldStores, empty_stores}
+use Rattle.world_spec.specs.HeldLaws.{held_with}
+use Rattle.world_spec.specs.HeldRuns.{Ended, run}
+use Rattle.world_spec.specs.PeerSpec.{step_of, start_of}
 use Rattle.peer_state.specs.declared.event.Event.{Event}
 use Rattle.peer_state.specs.declared.state.Mode.{Mode}
 use Rattle.peer_state.specs.declared.state.State.{State}

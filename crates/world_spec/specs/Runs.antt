@@ -14,8 +14,8 @@ use Rattle.schedule_text.specs.declared.form.Form.{Form}
 use Rattle.step_plans.specs.Plans.{Out}
 use Rattle.tree_node.specs.declared.version.TreeVersion.{TreeVersion}
 use Rattle.tree_node.specs.declared.version.TreeVersion.TheVariants.{One, Two}
-use Rattle.step_plans.specs.LeaderWords.{AnswerOut, Outgoing}
-use Rattle.wire_frames.specs.declared.frame.Frame.{Frame}
+use Rattle.step_plans.specs.LeaderOutput.{AnswerOut, Outgoing}
+use Rattle.phase_rows.specs.WireFrames.{Frame}
 use Rattle.world_spec.specs.Nodes.{Node, Taken, all_down, taken, started, hashed_by_start, opening_node, opening_strings}
 
 -- the view in which the ensemble opens and its form, the set of the peers whose starts have sealing on, the

@@ -1,6 +1,6 @@
 -- What the step or the start of a peer came to, and what its hasher took.
 use Rattle.std.specs.Prelude.{◌≡◌, ℕ, List}
-use Rattle.held_stores.specs.Held.{Account, HasHashed}
+use Rattle.world_spec.specs.Held.{Account, HasHashed}
 use Rattle.peer_state.specs.declared.state.Mode.{Mode}
 use Rattle.register_model.specs.declared.note.Note.{Note}
 use Rattle.step_plans.specs.Plans.{Out}

@@ -1,16 +1,16 @@
 -- What the lines of a schedule do to the stores of a peer.
 use Rattle.std.specs.Prelude.{ℕ, nat_lt, if◌then◌else◌, List, Option, None}
-use Rattle.ens_outside.specs.declared.memory.failing_call.Leaves.{Leaves}
-use Rattle.ens_outside.specs.declared.memory.failing_call.Leaves.TheVariants as left
-use Rattle.held_stores.specs.Held.{HeldStores}
+use Rattle.environment.specs.declared.memory.failing_call.Leaves.{Leaves}
+use Rattle.environment.specs.declared.memory.failing_call.Leaves.TheVariants as left
+use Rattle.world_spec.specs.Held.{HeldStores}
 use Rattle.tree_node.specs.TreeVersions.{levels}
-use Rattle.node_faults.specs.Faults.{place_at, replaced, replaced_if, spoiled_node}
-use Rattle.node_faults.specs.Naming.{named_at, segment_place, version_in}
+use Rattle.world_stores.specs.NodeFaults.{place_at, replaced, replaced_if, spoiled_node}
+use Rattle.world_stores.specs.Naming.{named_at, segment_place, version_in}
 use Rattle.schedule_text.specs.declared.keyword.StoreName.{StoreName}
 use Rattle.schedule_text.specs.declared.keyword.StoreName.TheVariants as names
 use Rattle.schedule_text.specs.declared.keyword.Survivor.{Survivor}
 use Rattle.schedule_text.specs.declared.keyword.Survivor.TheVariants as survivors
-use Rattle.tree_maps.specs.Sixteen.{form_of}
+use Rattle.synctree.specs.Sixteen.{form_of}
 use Rattle.world_stores.specs.Faults.{awaiting}
 use Rattle.world_stores.specs.Nodes.{Nodes, reverted}
 

@@ -1,9 +1,9 @@
 ghost use Rattle.std.specs.Prelude.{◌≡◌, ◌≤◌, ◌++◌, [], ◌∷◌, ℕ, List, All};
 ghost use Rattle.ens_base.specs.View.{IsPeer};
-ghost use Rattle.held_stores.specs.Held.{HeldStores};
+ghost use Rattle.world_spec.specs.Held.{HeldStores};
 ghost use Rattle.network.specs.Mail.{MayBeSent};
 ghost use Rattle.peer_state.specs.Ages.{IsYoung};
-ghost use Rattle.held_stores.specs.PeerPlan.{step_of, MayCome};
+ghost use Rattle.world_spec.specs.PeerSpec.{step_of, MayCome};
 ghost use Rattle.peer_state.specs.declared.event.Event.{Event};
 ghost use Rattle.peer_state.specs.declared.state.State.{State};
 ghost use Rattle.schedule_text.specs.Spelling.{AllMayStand};
@@ -26,7 +26,9 @@ pub fn steps_end_well()
 /// A peer starts with sealing on exactly where its schedule says so (`has_sealing`): in every form but
 /// `ensemble 1`, and behind a line `upgrade` of the peer.
 pub fn starts_seal_by_the_lines()
-    ensures { (form : Form) (peers : ℕ) (view : List ℕ) (events : List ScheduleEvent) (p : ℕ) → peers ≤ 31 → IsPeer p → AllMayStand peers events → (mode_at p (run_of_schedule form peers view events)).sealing ≡ has_sealing form events p }
+    ensures { (form : Form) (peers : ℕ) (view : List ℕ) (events : List ScheduleEvent) (p : ℕ) → peers ≤ 31
+        → IsPeer p → AllMayStand peers events
+        → (mode_at p (run_of_schedule form peers view events)).sealing ≡ has_sealing form events p }
 {}
 
 /// A peer starts with a tree of version two exactly where its schedule says so (`tree_by_lines`): in form 3,
@@ -44,7 +46,8 @@ pub fn messages_obey()
 /// After a calm line no message waits between its peers, if the run sent at most 500,000 messages.
 pub fn a_calm_leaves_none_waiting()
     ensures all { (form : Form) (peers : ℕ) (view : List ℕ) (events : List ScheduleEvent) → IsCalm everyone (run_of_schedule form peers view (events ++ Calm ∷ [])) }
-    ensures some { (form : Form) (peers : ℕ) (view : List ℕ) (events : List ScheduleEvent) (members : List ℕ) → IsCalm (set_of members) (run_of_schedule form peers view (events ++ CalmAmong members ∷ [])) }
+    ensures some { (form : Form) (peers : ℕ) (view : List ℕ) (events : List ScheduleEvent) (members : List ℕ)
+        → IsCalm (set_of members) (run_of_schedule form peers view (events ++ CalmAmong members ∷ [])) }
 {}
 
 /// The strings hashed before a line make no difference to it: it hashes its own after them.

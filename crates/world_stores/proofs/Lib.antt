@@ -1,1 +1,6 @@
 pub mod Tables
+pub mod Segments
+pub mod Digests
+pub mod Stepping
+pub mod Builds
+pub mod TreeRepair

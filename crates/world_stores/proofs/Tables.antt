@@ -9,8 +9,8 @@ use Rattle.std.specs.Map.{keys_of, lookup}
 use Rattle.std.specs.Ordering.{ordering_reverse}
 use Rattle.indexmap.specs.IndexMap.{insert_entry}
 use Rattle.ens_base.specs.Lists.{bytes_cmp}
-use Rattle.ens_outside.specs.Maps.{Entries, value_at, with_value}
-use Rattle.ens_outside.proofs.MapLaws.{found_after}
+use Rattle.environment.specs.Maps.{Entries, value_at, with_value}
+use Rattle.environment.proofs.MapLaws.{found_after}
 use Rattle.world_stores.specs.Maps.{map_of, without}
 
 itself : (k : List ℕ) → bytes_cmp k k ≡ Equal

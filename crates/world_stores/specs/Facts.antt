@@ -1,12 +1,12 @@
 -- The fact of a peer of a schedule.
 use Rattle.std.specs.Prelude.{◌≡◌, Option, Some, None, Result, Ok}
-use Rattle.ens_outside.specs.Failures.{left_by}
-use Rattle.ens_outside.specs.declared.memory.failing_call.Leaves.{Leaves}
+use Rattle.environment.specs.Failures.{left_by}
+use Rattle.environment.specs.declared.memory.failing_call.Leaves.{Leaves}
 use Rattle.fact_store.specs.Keeping.{KeeperCall, KeeperAnswer, Load, Save}
 use Rattle.fact_store.specs.declared.error.KeepError.{KeepError}
 use Rattle.fact_store.specs.declared.error.KeepError.TheVariants.{Failed}
-use Rattle.peer_fact.specs.declared.error.FactError.{FactError}
-use Rattle.peer_fact.specs.declared.saved.SavedFact.{SavedFact}
+use Rattle.stored_formats.specs.declared.fact_error.FactError.{FactError}
+use Rattle.stored_formats.specs.declared.saved.SavedFact.{SavedFact}
 use Rattle.world_stores.specs.Faults.{spent}
 use Rattle.world_stores.specs.declared.fact.HeldFact.{HeldFact}
 

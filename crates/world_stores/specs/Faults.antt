@@ -1,7 +1,7 @@
 -- The failures of a store of a schedule.
 use Rattle.std.specs.Prelude.{Some, None}
 use Rattle.ens_base.specs.Causes.{counted}
-use Rattle.ens_outside.specs.declared.memory.failing_call.Leaves.{Leaves}
+use Rattle.environment.specs.declared.memory.failing_call.Leaves.{Leaves}
 use Rattle.world_stores.specs.declared.faults.Faults.{Faults}
 
 -- no failure waits, and none has happened

@@ -3,3 +3,7 @@ pub mod Faults
 pub mod Objects
 pub mod Nodes
 pub mod Facts
+pub mod Naming
+pub mod NodeFaults
+pub mod Laws
+pub mod TreeRepair

@@ -3,7 +3,7 @@ use Rattle.std.specs.Prelude.{ℕ, List, [], ◌∷◌}
 use Rattle.std.specs.BTreeMap.{is_at}
 use Rattle.std.specs.Map.{remove_entry}
 use Rattle.ens_base.specs.Lists.{bytes_cmp}
-use Rattle.ens_outside.specs.Maps.{Entries, with_value}
+use Rattle.environment.specs.Maps.{Entries, with_value}
 
 -- the map without the entry of this key
 abbrev pub without : List ℕ → Entries → Entries

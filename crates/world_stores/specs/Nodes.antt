@@ -1,12 +1,12 @@
 -- The nodes of a peer of a schedule: a finite map from digests to bytes, and the digests that the
 -- top record held.
 use Rattle.std.specs.Prelude.{◌≡◌, ℕ, ◌-◌, List, [], ◌∷◌, ◌++◌, length, take, max, slice_get, Option, None, Some}
-use Rattle.ens_outside.specs.Failures.{left_by}
-use Rattle.ens_outside.specs.Maps.{Entries, value_at, with_value}
-use Rattle.ens_outside.specs.Stores.{NodeCall, Read, Write, Top, SetTop, NodeAnswer}
-use Rattle.ens_outside.specs.declared.errors.StoreError.{StoreError}
-use Rattle.ens_outside.specs.declared.errors.StoreError.TheVariants.{Failed, Memory}
-use Rattle.ens_outside.specs.declared.memory.failing_call.Leaves.{Leaves}
+use Rattle.environment.specs.Failures.{left_by}
+use Rattle.environment.specs.Maps.{Entries, value_at, with_value}
+use Rattle.environment.specs.Stores.{NodeCall, Read, Write, Top, SetTop, NodeAnswer}
+use Rattle.environment.specs.declared.errors.StoreError.{StoreError}
+use Rattle.environment.specs.declared.errors.StoreError.TheVariants.{Failed, Memory}
+use Rattle.environment.specs.declared.memory.failing_call.Leaves.{Leaves}
 use Rattle.world_stores.specs.Faults.{spent}
 use Rattle.world_stores.specs.declared.faults.Faults.{Faults}
 

@@ -1,12 +1,12 @@
 -- The objects of a peer of a schedule: a finite map from keys to bytes.
 use Rattle.std.specs.Prelude.{◌≡◌, Option, None, Some}
-use Rattle.ens_outside.specs.Failures.{left_by}
-use Rattle.ens_outside.specs.Maps.{Entries}
-use Rattle.ens_outside.specs.MemStores.{object_answer, objects_after}
-use Rattle.ens_outside.specs.Stores.{BackendCall, Get, Put, BackendAnswer}
-use Rattle.ens_outside.specs.declared.errors.StoreError.{StoreError}
-use Rattle.ens_outside.specs.declared.errors.StoreError.TheVariants.{Failed, Memory}
-use Rattle.ens_outside.specs.declared.memory.failing_call.Leaves.{Leaves}
+use Rattle.environment.specs.Failures.{left_by}
+use Rattle.environment.specs.Maps.{Entries}
+use Rattle.environment.specs.MemStores.{object_answer, objects_after}
+use Rattle.environment.specs.Stores.{BackendCall, Get, Put, BackendAnswer}
+use Rattle.environment.specs.declared.errors.StoreError.{StoreError}
+use Rattle.environment.specs.declared.errors.StoreError.TheVariants.{Failed, Memory}
+use Rattle.environment.specs.declared.memory.failing_call.Leaves.{Leaves}
 use Rattle.world_stores.specs.Faults.{spent}
 use Rattle.world_stores.specs.declared.faults.Faults.{Faults}
 

@@ -3,9 +3,9 @@ ghost use Rattle.world_stores.specs.Facts.{FactDoes, FactRefuses, kept_of};
 ghost use Rattle.world_stores.specs.Faults.{awaiting, no_faults};
 
 use crate::faults::Faults;
-use ens_outside::Leaves;
+use environment::Leaves;
 use fact_store::{FactKeeper, KeepError};
-use peer_fact::{Change, Fact, SavedFact};
+use stored_formats::{Change, Fact, SavedFact};
 
 /// Keeps the fact of a peer in memory. A load never fails. A save fails exactly if a failure waits.
 #[derive(Debug, Drop)]

@@ -2,7 +2,7 @@ ghost use Rattle.std.specs.Prelude.{◌≡◌, ◌≤◌, None};
 ghost use Rattle.ens_base.specs.Causes.{Rose};
 ghost use Rattle.world_stores.specs.Faults.{awaiting, no_faults, spent};
 
-use ens_outside::Leaves;
+use environment::Leaves;
 
 /// The failure that the next write of a store meets, and the number of calls that failed, which
 /// stays at the greatest u64.

@@ -1,13 +1,13 @@
 ghost use Rattle.std.specs.Prelude.{◌≡◌, ◌++◌, ◌∷◌, [], Some, IfErr, OnOk, OnErr};
 ghost use Rattle.std.specs.Option.{option_map};
-ghost use Rattle.ens_outside.specs.Maps.{value_at, with_value};
+ghost use Rattle.environment.specs.Maps.{value_at, with_value};
 ghost use Rattle.world_stores.specs.Faults.{awaiting, no_faults};
 ghost use Rattle.world_stores.specs.Maps.{without};
 ghost use Rattle.world_stores.specs.Nodes.{NodesDo, NodesRefuse, reverted, top_of};
 
 use crate::faults::Faults;
 use ens_base::{Bytes, Digest};
-use ens_outside::{Leaves, NodeStore, StoreError};
+use environment::{Leaves, NodeStore, StoreError};
 use indexmap::IndexMap;
 use std::alloc::Global;
 use std::marker::Model;

@@ -1,13 +1,13 @@
 ghost use Rattle.std.specs.Prelude.{◌≡◌, [], IfOk, IfErr, OnOk, OnErr};
-ghost use Rattle.ens_outside.specs.Maps.{value_at, with_value};
-ghost use Rattle.ens_outside.specs.Told.{bytes_of};
+ghost use Rattle.environment.specs.Maps.{value_at, with_value};
+ghost use Rattle.environment.specs.Told.{bytes_of};
 ghost use Rattle.world_stores.specs.Faults.{awaiting, no_faults};
 ghost use Rattle.world_stores.specs.Maps.{without};
 ghost use Rattle.world_stores.specs.Objects.{ObjectsDo, ObjectsRefuse};
 
 use crate::faults::Faults;
 use ens_base::{Bytes, Key};
-use ens_outside::{Backend, Leaves, StoreError};
+use environment::{Backend, Leaves, StoreError};
 use std::alloc::Global;
 use std::collections::BTreeMap;
 use std::marker::Model;

@@ -135,15 +135,15 @@ pub fn tested(alloc: Global, calls: &[Call], answers: &[Answer], order: &[u64]) 
         .map(|answer| answer.id)
         .collect::<Vec<u64>>(alloc)
         .ok()?;
-    if register_runs::are_distinct(alloc, &call_ids).ok()?
-        && register_runs::are_distinct(alloc, &answer_ids).ok()?
+    if register_checker::are_distinct(alloc, &call_ids).ok()?
+        && register_checker::are_distinct(alloc, &answer_ids).ok()?
     {
-        return register_runs::is_run(alloc, calls, answers, order).ok();
+        return register_checker::is_run(alloc, calls, answers, order).ok();
     }
     None
 }
 
-/// Returns whether the steps, as calls 1, 2 and so on, are a run by the test of register_runs.
+/// Returns whether the steps, as calls 1, 2 and so on, are a run by the test of register_checker.
 fn is_run_of(alloc: Global, steps: &[Step]) -> Option<bool> {
     let mut calls = Vec::new(alloc);
     let mut answers = Vec::new(alloc);
@@ -169,7 +169,7 @@ fn is_run_of(alloc: Global, steps: &[Step]) -> Option<bool> {
 }
 
 /// Returns the number of orders of three calls, the number of runs among them, and the number of
-/// orders on which the test of register_runs and the plain search agree.
+/// orders on which the test of register_checker and the plain search agree.
 pub fn compared(alloc: Global) -> Option<(u32, u32, u32)> {
     let mut orders = 0u32;
     let mut runs = 0u32;

@@ -1,9 +1,9 @@
 use Rattle.backup_job.proofs.Reading.{checked_as, read_as}
 use Rattle.backup_job.proofs.checking.print_check.Goals as goal
 
-pub returns-clause-front : goal.returns-clause-front
-returns-clause-front g c = λ fault.
-    let f = c.print_ending.ensures.front fault in (
+pub returns-clause-prefix : goal.returns-clause-prefix
+returns-clause-prefix g c = λ fault.
+    let f = c.print_ending.ensures.prefix fault in (
       f.0,
       f.1,
       checked_as c.check_ending-ending.result (g.S.Source.left c.args.input.now) f.0 f.1 c.check_ending-ending.ensures.printed f.2,

@@ -15,9 +15,9 @@ returns-clause-printed g c = λ wrote.
       p.2,
     )
 
-pub returns-clause-front : goal.returns-clause-front
-returns-clause-front g c = λ fault.
-    let f = c.print_ending.ensures.front fault in (
+pub returns-clause-prefix : goal.returns-clause-prefix
+returns-clause-prefix g c = λ fault.
+    let f = c.print_ending.ensures.prefix fault in (
       f.0,
       f.1,
       (

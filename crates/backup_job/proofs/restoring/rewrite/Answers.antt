@@ -2,7 +2,7 @@ use Rattle.backup_job.proofs.Transporting.{not_rewritten, rewritten}
 use Rattle.backup_job.proofs.restoring.rewrite.Goals as goal
 
 pub returns-in-Err : goal.returns-in-Err
-returns-in-Err g c = not_rewritten g.D.Disk.seen g.D.Disk.fault_count c.args.content.now c.args.disks c.in-Err.refused.held c.in-Err.refused.error c.in-Err.ensures.outside c.in-Err.ensures.refused
+returns-in-Err g c = not_rewritten g.D.Disk.seen g.D.Disk.fault_count c.args.content.now c.args.disks c.in-Err.refused.held c.in-Err.refused.error c.in-Err.ensures.outside c.in-Err.ensures.refused c.in-Err.ensures.objects
 
 pub returns : goal.returns
 returns g c =

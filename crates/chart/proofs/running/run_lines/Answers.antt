@@ -2,7 +2,7 @@ use Rattle.std.proofs.Common.{arith, rules, ◌≡◌, ◌∙◌, ◌≤◌, Som
 use Rattle.std.proofs.lemmas.Grind.{common_steps}
 use Rattle.std.proofs.lemmas.List.{length-map}
 use Rattle.std.proofs.lemmas.Option.{slice_get_read}
-use Rattle.held_stores.proofs.Taken.{hashed_none}
+use Rattle.world_spec.proofs.Taken.{hashed_none}
 use Rattle.world_spec.specs.Lines.{applied, run_of_schedule}
 use Rattle.world_spec.specs.Runs.{opening_run}
 use Rattle.world_model.specs.Peers.{node_of}

@@ -1,4 +1,4 @@
-use Rattle.held_stores.specs.Held.{account}
+use Rattle.world_spec.specs.Held.{account}
 use Rattle.world_model.specs.Worlds.{run_of}
 use Rattle.world_model.proofs.Events.{Running}
 use Rattle.chart.specs.Lines.{run_lines}

@@ -2,7 +2,7 @@ use Rattle.std.proofs.Common.{◌∙◌, ◌++◌, ◌∷◌, [], codes, sym}
 use Rattle.std.proofs.lemmas.Result.{IfOk-weaker}
 use Rattle.ens_base.specs.declared.status.Status.TheVariants as Status
 use Rattle.ens_base.proofs.Tests.{on_err}
-use Rattle.world_model.specs.HeldStores.{account}
+use Rattle.world_model.specs.WorldSpec.{account}
 use Rattle.cluster.proofs.Outcomes.{OnErr-weaker, ended_as, ends_as, read_whole, run_status, script_ends, unread_ends, unread_memory, unread_read, unread_status}
 use Rattle.cluster.proofs.job.cluster_ending.Goals as goal
 

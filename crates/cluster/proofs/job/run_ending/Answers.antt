@@ -1,7 +1,7 @@
 use Rattle.std.proofs.Common.{Option, refl, subst}
-use Rattle.ens_hashing.specs.Hashing.{Book}
-use Rattle.world_model.proofs.HeldStores.{are_apart}
-use Rattle.world_model.specs.HeldStores.{HasTaken}
+use Rattle.hash_book.specs.Hashing.{Book}
+use Rattle.world_model.proofs.WorldSpec.{are_apart}
+use Rattle.world_model.specs.WorldSpec.{HasTaken}
 use Rattle.replay.specs.Jobs.{hashed_by}
 use Rattle.cluster.specs.Ends.{recorded_schedule}
 use Rattle.cluster.proofs.Outcomes.{done_ends, memory_ends, run_ends_as, stop_ends, took}

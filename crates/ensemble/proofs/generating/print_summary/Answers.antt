@@ -15,14 +15,14 @@ returns-in-Ok-clause-printed g c = λ wrote.
       w.1,
     )
 
-pub returns-in-Ok-clause-front : goal.returns-in-Ok-clause-front
-returns-in-Ok-clause-front g c = λ fault. (
+pub returns-in-Ok-clause-prefix : goal.returns-in-Ok-clause-prefix
+returns-in-Ok-clause-prefix g c = λ fault. (
   c.in-Ok.ending.status,
   c.as_str.result.now,
   subst (λ (t : List ℕ). PrintsSummary c.args.number c.args.calls c.in-Ok.ending.status t) (sym c.as_str.ensures.value)
       (summary_prints c.args.number c.args.calls c.in-Ok.ending.status (string_bytes c.in-Ok.ending.text) c.in-Ok.ensures),
-  c.finish.ensures.front fault,
+  c.finish.ensures.prefix fault,
 )
 
-pub returns-in-Err-clause-front : goal.returns-in-Err-clause-front
-returns-in-Err-clause-front g c = λ fault. (statuses.Memory, _, refl, c.finish-in-Err.ensures.front fault)
+pub returns-in-Err-clause-prefix : goal.returns-in-Err-clause-prefix
+returns-in-Err-clause-prefix g c = λ fault. (statuses.Memory, _, refl, c.finish-in-Err.ensures.prefix fault)

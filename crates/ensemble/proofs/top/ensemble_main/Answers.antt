@@ -1,6 +1,6 @@
 use Rattle.std.proofs.Common.{refl, inl, inr}
 use Rattle.ens_base.specs.declared.status.Status.TheVariants as Status
-use Rattle.ens_words.specs.declared.job.Job.TheVariants as jobs
+use Rattle.command_line.specs.declared.job.Job.TheVariants as jobs
 use Rattle.ensemble.proofs.Completing.{job_completes}
 use Rattle.ensemble.proofs.Endings.{asked_did_read, asked_reads, did_read_at, job_ends, memory_did_read, refused_words, usage_did_read}
 use Rattle.ensemble.proofs.Serving.{finished, on_backup, on_cluster, on_none, on_peer, on_restore}
@@ -11,16 +11,16 @@ returns-in-Ok-clause-printed g c = λ wrote.
     let p = c.run_job.ensures.printed wrote in
     (p.0, job_ends _ _ c.in-Ok.job _ p.0 c.in-Ok.ensures p.1, p.2)
 
-pub returns-in-Ok-clause-front : goal.returns-in-Ok-clause-front
-returns-in-Ok-clause-front g c = λ fault.
-    let f = c.run_job.ensures.front fault in
+pub returns-in-Ok-clause-prefix : goal.returns-in-Ok-clause-prefix
+returns-in-Ok-clause-prefix g c = λ fault.
+    let f = c.run_job.ensures.prefix fault in
     (f.0, f.1, job_ends _ _ c.in-Ok.job f.0 f.1 c.in-Ok.ensures f.2, λ job asks. asked_did_read _ c.in-Ok.job job _ _ _ _ _ c.in-Ok.ensures asks f.3, f.4)
 
-pub returns-in-Err-Usage-clause-front : goal.returns-in-Err-Usage-clause-front
-returns-in-Err-Usage-clause-front g c = λ fault. (Status.Usage, _, (refused_words _ (rw c.in-Err-Usage.field-0-is at c.in-Err-Usage.ensures), refl), λ job asks. usage_did_read job _ _ _, c.finish.ensures.front fault)
+pub returns-in-Err-Usage-clause-prefix : goal.returns-in-Err-Usage-clause-prefix
+returns-in-Err-Usage-clause-prefix g c = λ fault. (Status.Usage, _, (refused_words _ (rw c.in-Err-Usage.field-0-is at c.in-Err-Usage.ensures), refl), λ job asks. usage_did_read job _ _ _, c.finish.ensures.prefix fault)
 
-pub returns-in-Err-Memory-clause-front : goal.returns-in-Err-Memory-clause-front
-returns-in-Err-Memory-clause-front g c = λ fault. (Status.Memory, _, refl, λ job asks. memory_did_read job _ _ _, c.finish-in-Err-Memory.ensures.front fault)
+pub returns-in-Err-Memory-clause-prefix : goal.returns-in-Err-Memory-clause-prefix
+returns-in-Err-Memory-clause-prefix g c = λ fault. (Status.Memory, _, refl, λ job asks. memory_did_read job _ _ _, c.finish-in-Err-Memory.ensures.prefix fault)
 
 pub returns-in-Ok-clause-completes : goal.returns-in-Ok-clause-completes
 returns-in-Ok-clause-completes g c = λ job asks free sound calm quiet.
@@ -57,10 +57,10 @@ pub returns-in-Err-Usage-clause-recorded : goal.returns-in-Err-Usage-clause-reco
 returns-in-Err-Usage-clause-recorded g c = λ w asks. absurd ((rw c.in-Err-Usage.field-0-is at c.in-Err-Usage.ensures) (jobs.Cluster w) asks)
 
 pub returns-in-Err-Memory-clause-recorded : goal.returns-in-Err-Memory-clause-recorded
-returns-in-Err-Memory-clause-recorded g c = λ w asks. inr ((refl, refl, refl), finished _ _ _ _ _ _ _ c.finish-in-Err-Memory.ensures.written c.finish-in-Err-Memory.ensures.front c.finish-in-Err-Memory.ensures.failed)
+returns-in-Err-Memory-clause-recorded g c = λ w asks. inr ((refl, refl, refl), finished _ _ _ _ _ _ _ c.finish-in-Err-Memory.ensures.written c.finish-in-Err-Memory.ensures.prefix c.finish-in-Err-Memory.ensures.failed)
 
 pub returns-in-Err-Memory-clause-served : goal.returns-in-Err-Memory-clause-served
-returns-in-Err-Memory-clause-served g c = λ w asks. inr ((refl, refl, refl), finished _ _ _ _ _ _ _ c.finish-in-Err-Memory.ensures.written c.finish-in-Err-Memory.ensures.front c.finish-in-Err-Memory.ensures.failed)
+returns-in-Err-Memory-clause-served g c = λ w asks. inr ((refl, refl, refl), finished _ _ _ _ _ _ _ c.finish-in-Err-Memory.ensures.written c.finish-in-Err-Memory.ensures.prefix c.finish-in-Err-Memory.ensures.failed)
 
 pub returns-in-Ok-clause-backed : goal.returns-in-Ok-clause-backed
 returns-in-Ok-clause-backed g c = λ asks. inl (on_backup _ c.in-Ok.job _ _ _ _ _ c.in-Ok.ensures asks c.run_job.ensures.linked)
@@ -69,7 +69,7 @@ pub returns-in-Err-Usage-clause-backed : goal.returns-in-Err-Usage-clause-backed
 returns-in-Err-Usage-clause-backed g c = λ asks. absurd ((rw c.in-Err-Usage.field-0-is at c.in-Err-Usage.ensures) jobs.Backup asks)
 
 pub returns-in-Err-Memory-clause-backed : goal.returns-in-Err-Memory-clause-backed
-returns-in-Err-Memory-clause-backed g c = λ asks. inr ((refl, refl, refl), finished _ _ _ _ _ _ _ c.finish-in-Err-Memory.ensures.written c.finish-in-Err-Memory.ensures.front c.finish-in-Err-Memory.ensures.failed)
+returns-in-Err-Memory-clause-backed g c = λ asks. inr ((refl, refl, refl), finished _ _ _ _ _ _ _ c.finish-in-Err-Memory.ensures.written c.finish-in-Err-Memory.ensures.prefix c.finish-in-Err-Memory.ensures.failed)
 
 pub returns-in-Ok-clause-restored : goal.returns-in-Ok-clause-restored
 returns-in-Ok-clause-restored g c = λ asks. inl (on_restore _ c.in-Ok.job _ _ _ _ _ c.in-Ok.ensures asks c.run_job.ensures.linked)
@@ -78,4 +78,4 @@ pub returns-in-Err-Usage-clause-restored : goal.returns-in-Err-Usage-clause-rest
 returns-in-Err-Usage-clause-restored g c = λ asks. absurd ((rw c.in-Err-Usage.field-0-is at c.in-Err-Usage.ensures) jobs.Restore asks)
 
 pub returns-in-Err-Memory-clause-restored : goal.returns-in-Err-Memory-clause-restored
-returns-in-Err-Memory-clause-restored g c = λ asks. inr ((refl, refl, refl), finished _ _ _ _ _ _ _ c.finish-in-Err-Memory.ensures.written c.finish-in-Err-Memory.ensures.front c.finish-in-Err-Memory.ensures.failed)
+returns-in-Err-Memory-clause-restored g c = λ asks. inr ((refl, refl, refl), finished _ _ _ _ _ _ _ c.finish-in-Err-Memory.ensures.written c.finish-in-Err-Memory.ensures.prefix c.finish-in-Err-Memory.ensures.failed)

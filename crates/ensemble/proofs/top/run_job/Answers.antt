@@ -4,15 +4,15 @@ use Rattle.backup_job.specs.Backed.{Backed}
 use Rattle.backup_job.specs.Disks.{Between}
 use Rattle.backup_job.specs.Restored.{Restored}
 use Rattle.ens_base.specs.declared.status.Status.{Status}
-use Rattle.ens_words.specs.declared.job.Job.{Job}
+use Rattle.command_line.specs.declared.job.Job.{Job}
 use Rattle.ensemble.specs.Top.{Does, PrintsCounts}
 use Rattle.ensemble.proofs.Endings.{did_back_up, did_read_backup, did_read_record, did_read_restore, did_read_root, did_read_schedule}
 use Rattle.ensemble.proofs.Changing.{all_there_still, backup_text, both_there, no_read, restore_reads, restore_text}
 use Rattle.ensemble.proofs.Recording.{cluster_reads, did_read_script, printed_of, read_rose, unseen, words_valid}
-use Rattle.ensemble.proofs.Serving.{ended_prints, front_text, peer_did_read, reads_nothing, whole_text}
+use Rattle.ensemble.proofs.Serving.{ended_prints, prefix_text, peer_did_read, reads_nothing, whole_text}
 use Rattle.ensemble.proofs.top.run_job.Given as given
 use Rattle.ensemble.proofs.top.run_job.Goals as goal
-use Rattle.peer_serve.specs.Serving.{Printed}
+use Rattle.peer_server.specs.Serving.{Printed}
 
 pub cluster-requires : goal.cluster-requires
 cluster-requires g c = (search rules, words_valid c.args.job c.in-Cluster.words c.in-Cluster.is c.requires.job)
@@ -25,9 +25,9 @@ returns-in-Cluster-clause-printed g c = λ wrote.
       p.2,
     )
 
-pub returns-in-Cluster-clause-front : goal.returns-in-Cluster-clause-front
-returns-in-Cluster-clause-front g c = λ fault.
-    let f = c.cluster.ensures.front fault in (
+pub returns-in-Cluster-clause-prefix : goal.returns-in-Cluster-clause-prefix
+returns-in-Cluster-clause-prefix g c = λ fault.
+    let f = c.cluster.ensures.prefix fault in (
       f.0,
       f.1,
       subst (λ (job : Job). Does job (g.S.Source.left c.args.input.now) f.0 f.1) (sym c.in-Cluster.is) (unseen g.L.Link.sent g.L.Link.given g.L.Link.fault_count c.args.link.now c.cluster.new.link c.in-Cluster.words (g.S.Source.left c.args.input.now) f.0 f.1 f.2),
@@ -47,20 +47,20 @@ returns-in-Cluster-clause-linked g c =
       refl,
       refl,
       printed_of (λ status text. EndsOverBook g.L.Link.sent g.L.Link.given g.L.Link.fault_count c.in-Cluster.words (g.S.Source.left c.args.input.now) c.args.link.now c.cluster.new.link status text) _ _ _ _ c.cluster.result c.cluster.ensures.printed
-          (λ fault. let f = c.cluster.ensures.front fault in (f.0, f.1, f.2, f.4)) c.cluster.ensures.write,
+          (λ fault. let f = c.cluster.ensures.prefix fault in (f.0, f.1, f.2, f.4)) c.cluster.ensures.write,
     )
 
-pub returns-in-Audit-clause-front : goal.returns-in-Audit-clause-front
-returns-in-Audit-clause-front g c = λ fault.
-    let r = c.print_report.ensures.front fault in
+pub returns-in-Audit-clause-prefix : goal.returns-in-Audit-clause-prefix
+returns-in-Audit-clause-prefix g c = λ fault.
+    let r = c.print_report.ensures.prefix fault in
     (r.0, r.1, subst (λ (job : Job). Does job (g.S.Source.left c.args.input.now) r.0 r.1) (sym c.in-Audit.is) r.2, did_read_record c.args.job _ _ _ _ _ c.in-Audit.is (record { taken = c.print_report.ensures.taken; end = r.3; fault = r.4; cut = r.5 }), r.6)
 
 pub returns-in-Audit-clause-untouched : goal.returns-in-Audit-clause-untouched
 returns-in-Audit-clause-untouched g c = λ none. absurd (none (rw c.in-Audit.is tt))
 
-pub returns-in-Check-clause-front : goal.returns-in-Check-clause-front
-returns-in-Check-clause-front g c = λ fault.
-    let r = c.print_check.ensures.front fault in
+pub returns-in-Check-clause-prefix : goal.returns-in-Check-clause-prefix
+returns-in-Check-clause-prefix g c = λ fault.
+    let r = c.print_check.ensures.prefix fault in
     (r.0, r.1, subst (λ (job : Job). Does job (g.S.Source.left c.args.input.now) r.0 r.1) (sym c.in-Check.is) r.2, did_read_backup c.args.job _ _ _ _ _ c.in-Check.is r.3, r.4)
 
 pub returns-in-Check-clause-untouched : goal.returns-in-Check-clause-untouched
@@ -79,9 +79,9 @@ returns-in-Backup-clause-printed g c = λ wrote.
     let p = c.print_backup.ensures.printed wrote in
     (p.0, subst (λ (job : Job). Does job (g.S.Source.left c.args.input.now) c.print_backup.result p.0) (sym c.in-Backup.is) (backup_text g.D.Disk.seen g.D.Disk.fault_count _ _ _ _ c.print_backup.result p.0 p.1), p.2)
 
-pub returns-in-Backup-clause-front : goal.returns-in-Backup-clause-front
-returns-in-Backup-clause-front g c = λ fault.
-    let f = c.print_backup.ensures.front fault in
+pub returns-in-Backup-clause-prefix : goal.returns-in-Backup-clause-prefix
+returns-in-Backup-clause-prefix g c = λ fault.
+    let f = c.print_backup.ensures.prefix fault in
     (f.0, f.1, subst (λ (job : Job). Does job (g.S.Source.left c.args.input.now) f.0 f.1) (sym c.in-Backup.is) (backup_text g.D.Disk.seen g.D.Disk.fault_count _ _ _ _ f.0 f.1 f.2), did_back_up c.args.job _ _ _ _ _ c.in-Backup.is, f.3)
 
 pub returns-in-Backup-clause-input : goal.returns-in-Backup-clause-input
@@ -98,7 +98,7 @@ returns-in-Backup-clause-linked g c =
       refl,
       refl,
       printed_of (λ status text. Between c.args.disks.now.nodes c.args.disks.now.objects c.print_backup.new.nodes c.print_backup.new.objects (λ first last. Backed g.D.Disk.seen g.D.Disk.fault_count first last status text)) _ _ _ _ c.print_backup.result c.print_backup.ensures.printed
-          c.print_backup.ensures.front c.print_backup.ensures.write,
+          c.print_backup.ensures.prefix c.print_backup.ensures.write,
     )
 
 pub returns-in-Backup-clause-there : goal.returns-in-Backup-clause-there
@@ -114,9 +114,9 @@ returns-in-Restore-clause-printed g c = λ wrote.
     let p = c.restore_disks.ensures.printed wrote in
     (p.0, subst (λ (job : Job). Does job (g.S.Source.left c.args.input.now) c.restore_disks.result p.0) (sym c.in-Restore.is) (restore_text g.D.Disk.seen g.D.Disk.fault_count _ _ _ _ _ c.restore_disks.result p.0 p.1), p.2)
 
-pub returns-in-Restore-clause-front : goal.returns-in-Restore-clause-front
-returns-in-Restore-clause-front g c = λ fault.
-    let f = c.restore_disks.ensures.front fault in
+pub returns-in-Restore-clause-prefix : goal.returns-in-Restore-clause-prefix
+returns-in-Restore-clause-prefix g c = λ fault.
+    let f = c.restore_disks.ensures.prefix fault in
     (f.0, f.1, subst (λ (job : Job). Does job (g.S.Source.left c.args.input.now) f.0 f.1) (sym c.in-Restore.is) (restore_text g.D.Disk.seen g.D.Disk.fault_count _ _ _ _ _ f.0 f.1 f.2), did_read_restore c.args.job _ _ _ _ _ c.in-Restore.is f.3, f.4)
 
 pub returns-in-Restore-clause-untouched : goal.returns-in-Restore-clause-untouched
@@ -132,14 +132,14 @@ returns-in-Restore-clause-linked g c =
       refl,
       refl,
       printed_of (λ status text. Between c.args.disks.now.nodes c.args.disks.now.objects c.restore_disks.new.nodes c.restore_disks.new.objects (λ first last. Restored g.D.Disk.seen g.D.Disk.fault_count (g.S.Source.left c.args.input.now) first last status text)) _ _ _ _ c.restore_disks.result
-          c.restore_disks.ensures.printed (λ fault. let f = c.restore_disks.ensures.front fault in (f.0, f.1, f.2, f.4)) c.restore_disks.ensures.write,
+          c.restore_disks.ensures.printed (λ fault. let f = c.restore_disks.ensures.prefix fault in (f.0, f.1, f.2, f.4)) c.restore_disks.ensures.write,
     )
 
 pub returns-in-Restore-clause-there : goal.returns-in-Restore-clause-there
 returns-in-Restore-clause-there g c = all_there_still c.args.disks.now _ c.requires.there refl c.restore_disks.ensures.there.0 c.restore_disks.ensures.there.1
 
-pub returns-in-Root-clause-front : goal.returns-in-Root-clause-front
-returns-in-Root-clause-front g c = λ fault. let r = c.root.ensures.front fault in (r.0, r.1, subst (λ (job : Job). Does job (g.S.Source.left c.args.input.now) r.0 r.1) (sym c.in-Root.is) r.2, did_read_root c.args.job _ _ _ _ _ c.in-Root.is r.3, r.4)
+pub returns-in-Root-clause-prefix : goal.returns-in-Root-clause-prefix
+returns-in-Root-clause-prefix g c = λ fault. let r = c.root.ensures.prefix fault in (r.0, r.1, subst (λ (job : Job). Does job (g.S.Source.left c.args.input.now) r.0 r.1) (sym c.in-Root.is) r.2, did_read_root c.args.job _ _ _ _ _ c.in-Root.is r.3, r.4)
 
 pub returns-in-Root-clause-untouched : goal.returns-in-Root-clause-untouched
 returns-in-Root-clause-untouched g c = λ none. absurd (none (rw c.in-Root.is tt))
@@ -147,8 +147,8 @@ returns-in-Root-clause-untouched g c = λ none. absurd (none (rw c.in-Root.is tt
 pub returns-in-Root-clause-input : goal.returns-in-Root-clause-input
 returns-in-Root-clause-input g c = λ wrote. did_read_root c.args.job _ _ _ _ _ c.in-Root.is (c.root.ensures.input wrote)
 
-pub returns-in-Replay-clause-front : goal.returns-in-Replay-clause-front
-returns-in-Replay-clause-front g c = λ fault. let r = c.replay.ensures.front fault in (r.0, r.1, subst (λ (job : Job). Does job (g.S.Source.left c.args.input.now) r.0 r.1) (sym c.in-Replay.is) r.2, did_read_schedule c.args.job _ _ _ _ _ c.in-Replay.is r.3, r.4)
+pub returns-in-Replay-clause-prefix : goal.returns-in-Replay-clause-prefix
+returns-in-Replay-clause-prefix g c = λ fault. let r = c.replay.ensures.prefix fault in (r.0, r.1, subst (λ (job : Job). Does job (g.S.Source.left c.args.input.now) r.0 r.1) (sym c.in-Replay.is) r.2, did_read_schedule c.args.job _ _ _ _ _ c.in-Replay.is r.3, r.4)
 
 pub returns-in-Replay-clause-untouched : goal.returns-in-Replay-clause-untouched
 returns-in-Replay-clause-untouched g c = λ none. absurd (none (rw c.in-Replay.is tt))
@@ -175,10 +175,10 @@ returns-in-Peer-clause-printed g c = λ no.
     let p = whole_text c.in-Peer.words (g.O.Sink.written c.args.output.now) (g.O.Sink.written c.serve.new.output) (g.O.Sink.fault_count c.args.output.now) (g.O.Sink.fault_count c.serve.new.output) e.0 e.1 c.serve.result e.2 e.3 no in
     (p.0, subst (λ (job : Job). Does job (g.S.Source.left c.args.input.now) c.serve.result p.0) (sym c.in-Peer.is) p.1, p.2)
 
-pub returns-in-Peer-clause-front : goal.returns-in-Peer-clause-front
-returns-in-Peer-clause-front g c = λ fault.
+pub returns-in-Peer-clause-prefix : goal.returns-in-Peer-clause-prefix
+returns-in-Peer-clause-prefix g c = λ fault.
     let e = counts g c in
-    let f = front_text c.in-Peer.words (g.O.Sink.written c.args.output.now) (g.O.Sink.written c.serve.new.output) (g.O.Sink.fault_count c.args.output.now) (g.O.Sink.fault_count c.serve.new.output) e.0 e.1 c.serve.result e.2 e.3 fault in
+    let f = prefix_text c.in-Peer.words (g.O.Sink.written c.args.output.now) (g.O.Sink.written c.serve.new.output) (g.O.Sink.fault_count c.args.output.now) (g.O.Sink.fault_count c.serve.new.output) e.0 e.1 c.serve.result e.2 e.3 fault in
     (f.0, f.1, subst (λ (job : Job). Does job (g.S.Source.left c.args.input.now) f.0 f.1) (sym c.in-Peer.is) f.2, peer_did_read c.args.job c.in-Peer.words _ _ _ _ _ c.in-Peer.is, f.3)
 
 pub returns-in-Peer-clause-input : goal.returns-in-Peer-clause-input
@@ -192,7 +192,7 @@ returns-in-Peer-clause-read g c = λ fault.
 pub returns-in-Peer-clause-write : goal.returns-in-Peer-clause-write
 returns-in-Peer-clause-write g c = λ fault.
     let e = counts g c in
-    (front_text c.in-Peer.words (g.O.Sink.written c.args.output.now) (g.O.Sink.written c.serve.new.output) (g.O.Sink.fault_count c.args.output.now) (g.O.Sink.fault_count c.serve.new.output) e.0 e.1 c.serve.result e.2 e.3 fault).4
+    (prefix_text c.in-Peer.words (g.O.Sink.written c.args.output.now) (g.O.Sink.written c.serve.new.output) (g.O.Sink.fault_count c.args.output.now) (g.O.Sink.fault_count c.serve.new.output) e.0 e.1 c.serve.result e.2 e.3 fault).4
 
 pub returns-in-Peer-clause-linked : goal.returns-in-Peer-clause-linked
 returns-in-Peer-clause-linked g c = rw c.in-Peer.is c.serve.ensures.ended

@@ -1,5 +1,5 @@
 use Rattle.std.proofs.Common.{sym, subst}
-use Rattle.peer_plan.specs.Starts.{Starts, continued_in}
+use Rattle.peer_spec.specs.Starts.{Starts, continued_in}
 use Rattle.tree_node.specs.declared.version.TreeVersion.{TreeVersion}
 use Rattle.peer_machine.proofs.starting.continued_in.Goals as goal
 

@@ -1,7 +1,7 @@
 use Rattle.step_plans.specs.Calls.{OpenTree, ScanTree}
 use Rattle.step_plans.specs.Plans.{Ask}
 use Rattle.tree_node.specs.declared.version.TreeVersion.TheVariants.{One}
-use Rattle.peer_plan.specs.Starts.{scanned}
+use Rattle.peer_spec.specs.Starts.{scanned}
 use Rattle.peer_machine.proofs.Starts.{answered}
 use Rattle.peer_machine.proofs.starting.continued_in_two.Goals as goal
 

@@ -1,5 +1,5 @@
 use Rattle.step_plans.specs.Calls.{Install}
-use Rattle.peer_plan.specs.Starts.{reseals_if}
+use Rattle.peer_spec.specs.Starts.{reseals_if}
 use Rattle.peer_machine.proofs.Starts.{answered}
 use Rattle.peer_machine.proofs.starting.installed.Goals as goal
 

@@ -2,7 +2,7 @@ use Rattle.std.specs.Prelude.{None}
 use Rattle.step_plans.specs.Calls.{OpenTree, Install}
 use Rattle.step_plans.specs.Plans.{Ask}
 use Rattle.tree_node.specs.declared.version.TreeVersion.TheVariants.{Two}
-use Rattle.peer_plan.specs.Starts.{reseals_if}
+use Rattle.peer_spec.specs.Starts.{reseals_if}
 use Rattle.peer_machine.proofs.Starts.{answered}
 use Rattle.peer_machine.proofs.starting.migrate.Goals as goal
 

@@ -1,5 +1,5 @@
 use Rattle.step_plans.specs.Calls.{ScanTree}
-use Rattle.peer_plan.specs.Starts.{scanned}
+use Rattle.peer_spec.specs.Starts.{scanned}
 use Rattle.peer_machine.proofs.Starts.{answered}
 use Rattle.peer_machine.proofs.starting.rescanned.Goals as goal
 

@@ -1,5 +1,5 @@
 use Rattle.std.proofs.Common.{ℕ, List, Option, Ok, refl, sym, subst, inr, ap}
-use Rattle.peer_plan.specs.Starts.{Starts, reseals_if}
+use Rattle.peer_spec.specs.Starts.{Starts, reseals_if}
 use Rattle.step_plans.specs.Plans.{Finished, nothing}
 use Rattle.peer_state.specs.declared.state.State.{State}
 use Rattle.peer_machine.proofs.starting.reseal_if.Goals as goal

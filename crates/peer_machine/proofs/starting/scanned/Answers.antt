@@ -1,7 +1,7 @@
 use Rattle.std.proofs.Common.{List, subst, sym, ◌∙◌}
 use Rattle.ens_base.specs.declared.entry.Entry.{Entry}
 use Rattle.tree_node.specs.declared.version.TreeVersion.TheVariants.{Two}
-use Rattle.peer_plan.specs.Starts.{Starts, continued, is_whole, migrated}
+use Rattle.peer_spec.specs.Starts.{Starts, continued, is_whole, migrated}
 use Rattle.peer_machine.proofs.Starts.{first_chosen, second_chosen}
 use Rattle.peer_machine.proofs.starting.scanned.Goals as goal
 

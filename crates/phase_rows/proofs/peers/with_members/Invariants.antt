@@ -1,6 +1,6 @@
 use Rattle.std.specs.Prelude.{◌||◌}
 use Rattle.wire_frames.specs.EnsBase.{holds}
-use Rattle.joint_views.specs.Quorums.{is_member}
+use Rattle.quorums.specs.Quorums.{is_member}
 use Rattle.phase_rows.proofs.Filled.{IsFilled}
 use Rattle.phase_rows.proofs.peers.with_members.Given as goal
 

@@ -2,9 +2,9 @@ use Rattle.std.proofs.Common.{arith, rules, ◌≡◌, ◌∙◌, ◌≤◌, Opt
 use Rattle.std.proofs.lemmas.Grind.{common_steps}
 use Rattle.std.proofs.lemmas.List.{length-map}
 use Rattle.std.proofs.lemmas.Option.{slice_get_read}
-use Rattle.ens_hashing.specs.Hashing.{Book}
-use Rattle.world_model.proofs.HeldStores.{are_apart}
-use Rattle.world_model.specs.HeldStores.{HasTaken}
+use Rattle.hash_book.specs.Hashing.{Book}
+use Rattle.world_model.proofs.WorldSpec.{are_apart}
+use Rattle.world_model.specs.WorldSpec.{HasTaken}
 use Rattle.world_model.specs.Peers.{node_of}
 use Rattle.world_model.specs.Worlds.{run_of}
 use Rattle.world_model.proofs.Events.{stands_at}

@@ -1,4 +1,4 @@
-use Rattle.world_model.specs.HeldStores.{account}
+use Rattle.world_model.specs.WorldSpec.{account}
 use Rattle.world_model.specs.Worlds.{run_of}
 use Rattle.replay.proofs.Stops.{Doing}
 use Rattle.replay.proofs.worlds.run_lines.Given as goal

@@ -4,8 +4,8 @@ use Rattle.std.proofs.lemmas.Result.{err_from_is_err_and, IfErr-weaker}
 use Rattle.schedule_input.proofs.Cutting.{cut_off, next_failed}
 use Rattle.schedule_input.proofs.Parts.{at_end, reads_as, refuses_later, too_many}
 use Rattle.schedule_input.proofs.read.read_schedule.Goals as goal
-use Rattle.line_reading.proofs.Parts.{ended_left}
-use Rattle.line_reading.proofs.Cutting.{nothing_pending}
+use Rattle.schedule_input.proofs.LineParts.{ended_left}
+use Rattle.schedule_input.proofs.LineCutting.{nothing_pending}
 
 -- what holds in any case holds on success
 anyway : {T E : Type 0} {P : Type 0} (r : Result T E) → P → OnOk r P

@@ -2,7 +2,7 @@ use Rattle.std.proofs.Common.{◌≡◌, ℕ, List, [], ◌∷◌, ◌++◌, len
 use Rattle.std.proofs.lemmas.Result.{err_from_is_err_and}
 use Rattle.schedule_text.specs.Reading.{next_line, TakesLine}
 use Rattle.schedule_input.proofs.Parts.{line_taken, line_counts, refuses_line, rest_read}
-use Rattle.line_reading.proofs.Cutting.{kept_takes}
+use Rattle.schedule_input.proofs.LineCutting.{kept_takes}
 use Rattle.schedule_input.proofs.Cutting.{cut_off, next_failed, taken_next, taken_to}
 use Rattle.schedule_input.proofs.Reached.{reached_next}
 use Rattle.schedule_input.proofs.read.take_line.Goals as goal

@@ -1,9 +1,9 @@
 use Rattle.std.proofs.Common.{◌≡◌, ℕ, Result, Ok, sym, ap, subst, ◌∙◌}
-use Rattle.schedule_words.specs.Causes.{Refuses}
-use Rattle.schedule_words.specs.declared.cause.Cause.{Cause}
-use Rattle.schedule_words.specs.declared.cause.WordError.{WordError}
-use Rattle.schedule_words.specs.declared.cause.WordError.TheVariants.{Bad, Memory}
-use Rattle.schedule_words.proofs.Results.{ok_same}
+use Rattle.lexemes.specs.Causes.{Refuses}
+use Rattle.lexemes.specs.declared.cause.Cause.{Cause}
+use Rattle.lexemes.specs.declared.cause.WordError.{WordError}
+use Rattle.lexemes.specs.declared.cause.WordError.TheVariants.{Bad, Memory}
+use Rattle.lexemes.proofs.Results.{ok_same}
 use Rattle.schedule_text.specs.Errors.{Stops, error_at}
 use Rattle.schedule_text.specs.Events.{event_of}
 use Rattle.schedule_text.specs.declared.error.ScheduleError.{ScheduleError}

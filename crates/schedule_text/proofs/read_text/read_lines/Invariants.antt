@@ -1,5 +1,5 @@
 use Rattle.std.proofs.Common.{◌≡◌, length}
-use Rattle.schedule_words.specs.Words.{parts_of}
+use Rattle.lexemes.specs.Words.{parts_of}
 use Rattle.schedule_text.specs.Reading.{read_parts, schedule_of}
 use Rattle.schedule_text.proofs.read_text.read_lines.Given as goal
 

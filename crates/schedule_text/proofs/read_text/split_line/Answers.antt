@@ -1,5 +1,5 @@
 use Rattle.std.proofs.Common.{◌≡◌, ℕ, ◌+◌, ◌-◌, List, ◌∷◌, length, take, drop, sym, ap, ◌∙◌, arith, take_all, length-drop}
-use Rattle.schedule_words.specs.Words.{parts_of}
+use Rattle.lexemes.specs.Words.{parts_of}
 use Rattle.schedule_text.proofs.Parts.{parts_of-feed, parts_of-no_feed}
 use Rattle.schedule_text.proofs.read_text.split_line.Goals as goal
 

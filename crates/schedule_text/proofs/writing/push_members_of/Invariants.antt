@@ -1,5 +1,5 @@
 use Rattle.std.proofs.Common.{◌≡◌, ◌++◌, string_bytes, take}
-use Rattle.schedule_words.specs.Spelling.{member_words}
+use Rattle.lexemes.specs.Spelling.{member_words}
 use Rattle.schedule_text.specs.Writing.{spaced}
 use Rattle.schedule_text.proofs.writing.push_members_of.Given as goal
 

@@ -1,7 +1,7 @@
 use Rattle.std.proofs.Common.{◌∙◌, length, ap, sym, ℕ, List}
 use Rattle.std.specs.Prelude.{count_ones}
-use Rattle.tree_maps.specs.TreeNode.{inner_spelling}
-use Rattle.tree_maps.proofs.Formats.{mask_ones}
+use Rattle.synctree.specs.TreeNode.{inner_spelling}
+use Rattle.synctree.proofs.Formats.{mask_ones}
 use Rattle.synctree.proofs.Puts.{inner_text_is}
 use Rattle.synctree.proofs.encoding.encode_inner.Goals as goal
 

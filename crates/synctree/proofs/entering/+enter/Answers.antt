@@ -1,8 +1,8 @@
 use Rattle.std.proofs.Common.{◌<◌, ◌∙◌, ◌-◌, get_or, replicate, ap, sym, subst, arith, ℕ, List, Option, None, Ok, Err}
-use Rattle.tree_maps.specs.TreeNode.{Position}
-use Rattle.tree_maps.proofs.TreeNode.{levels_few, position_deepest}
-use Rattle.tree_maps.specs.Sixteen.{form_of, nibble}
-use Rattle.tree_maps.proofs.Formats.{nibble_below, place_position}
+use Rattle.synctree.specs.TreeNode.{Position}
+use Rattle.synctree.proofs.TreeNode.{levels_few, position_deepest}
+use Rattle.synctree.specs.Sixteen.{form_of, nibble}
+use Rattle.synctree.proofs.Formats.{nibble_below, place_position}
 use Rattle.synctree.specs.Walks.{reach, store, enter}
 use Rattle.synctree.proofs.Exits.{DidOutside}
 use Rattle.synctree.proofs.Places.{level_below, digit_is, place_below, width_is}

@@ -1,8 +1,8 @@
 use Rattle.std.proofs.Common.{sym, subst, List, []}
 use Rattle.ens_base.specs.declared.entry.Entry.{Entry}
-use Rattle.tree_maps.specs.TreeNode.{AreAbove}
-use Rattle.tree_maps.specs.Entries.{put}
-use Rattle.tree_maps.specs.Sixteen.{form_of}
+use Rattle.synctree.specs.TreeNode.{AreAbove}
+use Rattle.synctree.specs.Entries.{put}
+use Rattle.synctree.specs.Sixteen.{form_of}
 use Rattle.synctree.specs.Walks.{reach, store}
 use Rattle.synctree.proofs.Exits.{DidOutside, after, cut_off, passed_on, memory_did}
 use Rattle.synctree.proofs.Puts.{put_above}

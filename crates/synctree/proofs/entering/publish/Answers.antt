@@ -1,8 +1,8 @@
 use Rattle.std.proofs.Common.{◌∙◌, sym, subst, refl, ℕ, [], Some, Ok, Err, inr}
-use Rattle.ens_outside.specs.Stores.{SetTop}
-use Rattle.tree_maps.specs.Forms.{root, IsPlace}
-use Rattle.tree_maps.specs.Sixteen.{form_of}
-use Rattle.tree_maps.proofs.Unique.{root_place}
+use Rattle.environment.specs.Stores.{SetTop}
+use Rattle.synctree.specs.Forms.{root, IsPlace}
+use Rattle.synctree.specs.Sixteen.{form_of}
+use Rattle.synctree.proofs.Unique.{root_place}
 use Rattle.synctree.specs.Plans.{Done}
 use Rattle.synctree.specs.Records.{KeptUnlessFailed}
 use Rattle.synctree.specs.Walks.{enter, set_top}

@@ -4,8 +4,8 @@ use Rattle.std.proofs.lemmas.Grind.{common_steps}
 use Rattle.std.specs.declared.cmp.Ordering.TheVariants.{Less, Equal}
 use Rattle.ens_base.specs.declared.entry.Entry.{Entry}
 use Rattle.ens_base.specs.Lists.{bytes_cmp}
-use Rattle.tree_maps.specs.Entries.{put}
-use Rattle.tree_maps.proofs.Parts.{get_or-any}
+use Rattle.synctree.specs.Entries.{put}
+use Rattle.synctree.proofs.Parts.{get_or-any}
 use Rattle.synctree.proofs.Puts.{put_same, put_before, put_last}
 use Rattle.synctree.proofs.entering.put_into.Goals as goal
 

@@ -1,8 +1,8 @@
 use Rattle.std.proofs.Common.{◌∙◌, ◌-◌, ◌/◌, ◌%◌, ap, sym, refl, [], subst, arith, ℕ, List, Option, None, Ok}
 use Rattle.std.proofs.Math.Nat.{mod-lt}
-use Rattle.tree_maps.specs.TreeNode.{Position}
-use Rattle.tree_maps.specs.Sixteen.{form_of}
-use Rattle.tree_maps.proofs.Below.{place}
+use Rattle.synctree.specs.TreeNode.{Position}
+use Rattle.synctree.specs.Sixteen.{form_of}
+use Rattle.synctree.proofs.Below.{place}
 use Rattle.synctree.specs.Walks.{onward}
 use Rattle.synctree.specs.Nodes.{child_name}
 use Rattle.synctree.proofs.Exits.{DidOutside}

@@ -1,5 +1,5 @@
 use Rattle.std.proofs.Common.{sym, refl, [], subst, ℕ, List, Option, None, Ok}
-use Rattle.tree_maps.specs.Sixteen.{form_of}
+use Rattle.synctree.specs.Sixteen.{form_of}
 use Rattle.synctree.specs.Walks.{onward}
 use Rattle.synctree.specs.Nodes.{name_at, node_bytes}
 use Rattle.synctree.proofs.Exits.{DidOutside, after, cut_off}

@@ -1,7 +1,7 @@
 use Rattle.std.proofs.Common.{◌∙◌, ◌-◌, ap, sym, refl, [], true, false, ℕ, List, Some, Ok, Err}
 use Rattle.std.specs.Prelude.{if◌then◌else◌}
-use Rattle.tree_maps.specs.TreeNode.{levels}
-use Rattle.tree_maps.specs.Sixteen.{form_of}
+use Rattle.synctree.specs.TreeNode.{levels}
+use Rattle.synctree.specs.Sixteen.{form_of}
 use Rattle.synctree.specs.declared.error.TreeError.TheVariants.{Damaged}
 use Rattle.synctree.specs.Plans.{Done, Broken}
 use Rattle.synctree.specs.Walks.{fetch}

@@ -1,6 +1,6 @@
 use Rattle.std.proofs.Common.{sym, refl, [], subst, ℕ, List, Option, Err}
-use Rattle.tree_maps.specs.Forms.{root}
-use Rattle.tree_maps.specs.Sixteen.{form_of}
+use Rattle.synctree.specs.Forms.{root}
+use Rattle.synctree.specs.Sixteen.{form_of}
 use Rattle.synctree.specs.declared.error.TreeError.TheVariants.{Damaged}
 use Rattle.synctree.specs.Nodes.{node_plan}
 use Rattle.synctree.proofs.Exits.{DidOutside}

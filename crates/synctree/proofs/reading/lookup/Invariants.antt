@@ -1,5 +1,5 @@
 use Rattle.std.proofs.Common.{◌≡◌, drop}
-use Rattle.tree_maps.specs.Entries.{lookup}
+use Rattle.synctree.specs.Entries.{lookup}
 use Rattle.synctree.proofs.reading.lookup.Given as goal
 
 abbrev pub invariant-loop-entry : goal.invariant-loop-entry

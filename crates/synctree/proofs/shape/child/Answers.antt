@@ -1,5 +1,5 @@
 use Rattle.std.proofs.Common.{◌∙◌, ◌+◌, ◌*◌, ap, sym, arith, ℕ}
-use Rattle.tree_maps.specs.TreeNode.{Two}
+use Rattle.synctree.specs.TreeNode.{Two}
 use Rattle.synctree.proofs.Places.{child_is, index_room}
 use Rattle.synctree.proofs.shape.child.Goals as goal
 

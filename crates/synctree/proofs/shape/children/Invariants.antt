@@ -1,5 +1,5 @@
 use Rattle.std.proofs.Common.{◌≡◌, ◌≤◌, ◌+◌, ◌++◌, ℕ, drop}
-use Rattle.tree_maps.specs.Sixteen.{spread, children_of}
+use Rattle.synctree.specs.Sixteen.{spread, children_of}
 use Rattle.synctree.proofs.shape.children.Given as goal
 
 abbrev pub invariant-loop : goal.invariant-loop

@@ -1,5 +1,5 @@
 use Rattle.std.proofs.Common.{◌≡◌, ◌++◌, drop}
-use Rattle.tree_maps.specs.Sixteen.{digests_of}
+use Rattle.synctree.specs.Sixteen.{digests_of}
 use Rattle.synctree.proofs.shape.digests.Given as goal
 
 abbrev pub invariant-loop-child : goal.invariant-loop-child

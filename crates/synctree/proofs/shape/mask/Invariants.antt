@@ -1,5 +1,5 @@
 use Rattle.std.proofs.Common.{◌≡◌, ◌≤◌, length, drop}
-use Rattle.tree_maps.specs.Sixteen.{mask_of}
+use Rattle.synctree.specs.Sixteen.{mask_of}
 use Rattle.synctree.proofs.shape.mask.Given as goal
 
 abbrev pub invariant-loop-c : goal.invariant-loop-c

@@ -1,9 +1,9 @@
 use Rattle.std.proofs.Common.{◌∙◌, ap, sym, subst, refl, ℕ, List, [], Ok, Err, inr}
-use Rattle.tree_maps.specs.TreeNode.{inner_spelling}
-use Rattle.ens_outside.specs.Stores.{SetTop}
-use Rattle.tree_maps.specs.Forms.{root}
-use Rattle.tree_maps.specs.Maps.{text}
-use Rattle.tree_maps.specs.Sixteen.{form_of}
+use Rattle.synctree.specs.TreeNode.{inner_spelling}
+use Rattle.environment.specs.Stores.{SetTop}
+use Rattle.synctree.specs.Forms.{root}
+use Rattle.synctree.specs.Maps.{text}
+use Rattle.synctree.specs.Sixteen.{form_of}
 use Rattle.synctree.specs.Plans.{Done}
 use Rattle.synctree.specs.Records.{KeptUnlessFailed}
 use Rattle.synctree.specs.Walks.{store, set_top}

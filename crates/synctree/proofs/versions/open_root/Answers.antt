@@ -1,5 +1,5 @@
 use Rattle.std.proofs.Common.{ap, subst, ℕ, List}
-use Rattle.tree_maps.specs.Forms.{root}
+use Rattle.synctree.specs.Forms.{root}
 use Rattle.synctree.specs.Answers.{Spells}
 use Rattle.synctree.specs.Shapes.{version_in}
 use Rattle.synctree.specs.Walks.{fetch, spelled}

@@ -1,5 +1,5 @@
 use Rattle.std.proofs.Common.{sym, refl, [], subst, ℕ, List, Option, Err}
-use Rattle.tree_maps.specs.Forms.{root}
+use Rattle.synctree.specs.Forms.{root}
 use Rattle.synctree.specs.declared.error.TreeError.TheVariants.{Damaged}
 use Rattle.synctree.specs.Shapes.{shape_plan}
 use Rattle.synctree.proofs.Exits.{DidOutside}

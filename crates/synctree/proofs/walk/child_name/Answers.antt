@@ -1,7 +1,7 @@
 use Rattle.std.proofs.Common.{◌∙◌, ap, sym, subst, ℕ, List, None, get_or}
 use Rattle.std.specs.Option.{option_map}
-use Rattle.tree_maps.specs.Sixteen.{form_of, children_in}
-use Rattle.tree_maps.specs.TreeNode.{inner_of}
+use Rattle.synctree.specs.Sixteen.{form_of, children_in}
+use Rattle.synctree.specs.TreeNode.{inner_of}
 use Rattle.synctree.specs.Answers.{Spells}
 use Rattle.synctree.specs.Walks.{fetch, spelled}
 use Rattle.synctree.proofs.Exits.{DidOutside, after, cut_off, spelled_did}

@@ -1,7 +1,7 @@
 use Rattle.std.proofs.Common.{◌∙◌, sym, subst, refl, ℕ, List, [], Option, Ok, Err}
-use Rattle.tree_maps.specs.Forms.{root, IsPlace}
-use Rattle.tree_maps.specs.Sixteen.{form_of}
-use Rattle.tree_maps.proofs.Unique.{root_place}
+use Rattle.synctree.specs.Forms.{root, IsPlace}
+use Rattle.synctree.specs.Sixteen.{form_of}
+use Rattle.synctree.proofs.Unique.{root_place}
 use Rattle.synctree.specs.declared.error.TreeError.TheVariants.{Damaged}
 use Rattle.synctree.specs.Halves.{HasherDid}
 use Rattle.synctree.specs.Walks.{find, from_top}

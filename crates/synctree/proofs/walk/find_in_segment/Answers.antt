@@ -1,7 +1,7 @@
 use Rattle.std.proofs.Common.{subst, List}
 use Rattle.ens_base.specs.declared.entry.Entry.{Entry}
-use Rattle.tree_maps.specs.Entries.{lookup}
-use Rattle.tree_maps.specs.Sixteen.{form_of}
+use Rattle.synctree.specs.Entries.{lookup}
+use Rattle.synctree.specs.Sixteen.{form_of}
 use Rattle.synctree.specs.Answers.{Makes}
 use Rattle.synctree.specs.Plans.{Done}
 use Rattle.synctree.specs.Walks.{open_node}

@@ -2,8 +2,8 @@ use Rattle.tree_backup.specs.Order.{Rises}
 use Rattle.std.proofs.Common.{◌∙◌, ℕ, [], rules, inl, inr, refl, sym}
 use Rattle.std.specs.Prelude.{Vec}
 use Rattle.std.specs.declared.alloc.Global.{Global}
-use Rattle.tree_maps.specs.Sixteen.{form_of}
-use Rattle.tree_verify.specs.Levels.{scan_plan}
+use Rattle.synctree.specs.Sixteen.{form_of}
+use Rattle.tree_repair.specs.Levels.{scan_plan}
 use Rattle.tree_backup.proofs.Faults.{scan_outside, did_rose, error_is, scan_rises}
 use Rattle.tree_backup.proofs.backing.backup.Goals as goal
 

@@ -1,6 +1,6 @@
 use Rattle.std.proofs.Common.{◌≡◌, ◌∙◌, ◌<◌, ◌^◌, List, ap, length, subst, map}
 use Rattle.std.specs.List.{AllByRecursion}
-use Rattle.tree_maps.specs.Sixteen.{form_of}
+use Rattle.synctree.specs.Sixteen.{form_of}
 use Rattle.tree_node.specs.declared.version.TreeVersion.TheVariants.{Two}
 use Rattle.tree_repair.specs.Admitting.{AdmitsAll}
 use Rattle.tree_repair.specs.Builds.{build_nodes}

@@ -1,6 +1,6 @@
 use Rattle.std.proofs.Common.{inl, Option, Vec, ℕ, Global}
-use Rattle.ens_object.specs.declared.object.Object.{Object}
-use Rattle.ens_outside.specs.Told.{bytes_of}
+use Rattle.stored_formats.specs.declared.object.Object.{Object}
+use Rattle.environment.specs.Told.{bytes_of}
 use Rattle.tree_backup.proofs.Calls.{fetch_one, counts_later, error_rose, not_failed}
 use Rattle.tree_backup.proofs.fetching.fetch.Goals as goal
 

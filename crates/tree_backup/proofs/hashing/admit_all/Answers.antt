@@ -1,5 +1,5 @@
 use Rattle.std.proofs.Common.{◌+◌, drop, subst, List, Option, ℕ}
-use Rattle.tree_maps.proofs.Slices.{drop_at}
+use Rattle.synctree.proofs.Slices.{drop_at}
 use Rattle.tree_repair.proofs.Admissions.{TriesOn, tries_next, tries_err}
 use Rattle.tree_repair.proofs.Climbing.{name_is}
 use Rattle.tree_repair.specs.Admitting.{AdmitsAll}

@@ -1,6 +1,6 @@
 use Rattle.std.proofs.Common.{◌∙◌, ap, sym, refl, arith}
-use Rattle.tree_verify.proofs.Filling.{fills_more}
-use Rattle.tree_verify.specs.Hashers.{digest_if}
+use Rattle.tree_repair.proofs.Filling.{fills_more}
+use Rattle.tree_repair.specs.Hashers.{digest_if}
 use Rattle.tree_backup.specs.Checks.{text_at}
 use Rattle.tree_backup.specs.Runs.{matched}
 use Rattle.tree_backup.specs.declared.item.Item.{Item}

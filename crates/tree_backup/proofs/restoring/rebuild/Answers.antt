@@ -1,6 +1,6 @@
 use Rattle.std.proofs.Common.{◌∙◌, ap, refl, Some}
 use Rattle.std.proofs.lemmas.Result.{on_ok_weaker}
-use Rattle.tree_maps.specs.Sixteen.{form_of}
+use Rattle.synctree.specs.Sixteen.{form_of}
 use Rattle.tree_node.specs.declared.version.TreeVersion.TheVariants.{Two}
 use Rattle.tree_repair.proofs.Rebuilds.{not_built, rebuilt}
 use Rattle.tree_repair.specs.declared.built.Built.{Built}

@@ -1,6 +1,6 @@
 use Rattle.std.proofs.Common.{◌∙◌, List, [], Err, refl, sym, subst, inl}
-use Rattle.ens_object.specs.declared.object.Object.{Object}
-use Rattle.tree_maps.specs.Sixteen.{form_of}
+use Rattle.stored_formats.specs.declared.object.Object.{Object}
+use Rattle.synctree.specs.Sixteen.{form_of}
 use Rattle.tree_node.specs.declared.version.TreeVersion.TheVariants.{Two}
 use Rattle.tree_repair.specs.Rebuilds.{rebuild_plan}
 use Rattle.tree_backup.specs.Stores.{Puts}

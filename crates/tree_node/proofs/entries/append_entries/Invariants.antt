@@ -1,6 +1,6 @@
 use Rattle.std.proofs.Common.{◌≡◌, ◌++◌, take}
 use Rattle.std.specs.List.{AllByRecursion}
-use Rattle.ens_fields.specs.Entries.{IsEntry}
+use Rattle.fields.specs.Entries.{IsEntry}
 use Rattle.tree_node.specs.Entries.{entries_spelling}
 use Rattle.tree_node.proofs.entries.append_entries.Given as goal
 

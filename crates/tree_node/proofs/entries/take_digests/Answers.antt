@@ -1,6 +1,6 @@
 use Rattle.std.proofs.Common.{arith}
 use Rattle.std.proofs.lemmas.Result.{err_from_is_err_and}
-use Rattle.ens_fields.specs.Numbers.{run_at}
+use Rattle.fields.specs.Numbers.{run_at}
 use Rattle.tree_node.proofs.RepeatLaws.{goes_on, stops, is_done, fails_of}
 use Rattle.tree_node.proofs.entries.take_digests.Goals as goal
 

@@ -1,5 +1,5 @@
 use Rattle.std.proofs.Common.{◌≡◌, ℕ, List, arith, rules, subst, Ok}
-use Rattle.ens_fields.specs.Reading.{Fails}
+use Rattle.fields.specs.Reading.{Fails}
 use Rattle.std.proofs.lemmas.Result.{err_from_is_err_and}
 use Rattle.ens_base.specs.declared.entry.Entry.{Entry}
 use Rattle.tree_node.specs.Entries.{last_key, next_at}

@@ -1,4 +1,4 @@
-use Rattle.ens_fields.proofs.FirstFaultLaws.{field_faults}
+use Rattle.fields.proofs.FirstFaultLaws.{field_faults}
 use Rattle.tree_node.proofs.PositionLaws.{position_grammar}
 use Rattle.tree_node.proofs.NodeLaws.{inner_grammar, segment_grammar}
 use Rattle.tree_node.proofs.NodeFaults.{position_faults}

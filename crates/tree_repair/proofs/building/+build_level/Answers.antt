@@ -1,10 +1,10 @@
 use Rattle.std.proofs.Common.{◌≡◌, ◌∙◌, ◌-◌, ◌+◌, ap, map, arith}
 use Rattle.std.proofs.lemmas.Result.{IfOk-weaker, on_ok_weaker}
 use Rattle.tree_node.specs.TreeVersions.{levels}
-use Rattle.tree_maps.specs.Sixteen.{form_of}
-use Rattle.tree_verify.specs.Hashers.{digest_if}
+use Rattle.synctree.specs.Sixteen.{form_of}
+use Rattle.tree_repair.specs.Hashers.{digest_if}
 use Rattle.tree_repair.specs.Builds.{somes, nodes_down}
-use Rattle.tree_repair.specs.Levels.{texts_of}
+use Rattle.tree_repair.specs.RepairLevels.{texts_of}
 use Rattle.tree_repair.proofs.Levels.{indexes_rise, indexes_within, names_beside, level_indexes, level_texts}
 use Rattle.tree_repair.proofs.Admissions.{memory_at_once}
 use Rattle.tree_repair.proofs.Climbing.{last_indexes, last_names, last_more, last_ok, down_step, nodes_more, level_err, level_memory, level_ok}

@@ -1,9 +1,9 @@
 use Rattle.std.proofs.Common.{◌≡◌, ◌∙◌, ◌++◌, ◌-◌, ap, sym, map, List}
 use Rattle.md5.specs.Md5.{md5}
 use Rattle.tree_node.specs.TreeVersions.{levels}
-use Rattle.tree_maps.specs.Forms.{root}
-use Rattle.tree_maps.specs.Maps.{text}
-use Rattle.tree_maps.specs.Sixteen.{form_of}
+use Rattle.synctree.specs.Forms.{root}
+use Rattle.synctree.specs.Maps.{text}
+use Rattle.synctree.specs.Sixteen.{form_of}
 use Rattle.synctree.specs.declared.stored_node.StoredNode.{StoredNode}
 use Rattle.tree_repair.specs.Admitting.{AdmitsAll}
 use Rattle.tree_repair.specs.Builds.{stored, nodes_down, build_nodes}

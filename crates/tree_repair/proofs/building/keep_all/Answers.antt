@@ -1,6 +1,6 @@
 use Rattle.std.proofs.Common.{◌≡◌, ◌∙◌, ◌<◌, ◌+◌, ◌∷◌, sym, subst, arith, drop, get_or, length, Option, List, ℕ}
 use Rattle.std.proofs.lemmas.Grind.{common_steps}
-use Rattle.tree_maps.proofs.Slices.{drop_at}
+use Rattle.synctree.proofs.Slices.{drop_at}
 use Rattle.tree_repair.proofs.Lists.{drop_set, drop_further, get_same, length_set}
 use Rattle.tree_repair.proofs.Admissions.{TriesOn, passed_on, tries_next, tries_err}
 use Rattle.tree_repair.proofs.Climbing.{name_is, kept_more}

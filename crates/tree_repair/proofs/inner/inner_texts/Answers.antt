@@ -2,7 +2,7 @@ use Rattle.std.proofs.Common.{◌≡◌, ◌∙◌, ◌/◌, ap, sym, subst, map
 use Rattle.std.specs.Prelude.{nat_eq}
 use Rattle.std.specs.List.{dedup}
 use Rattle.std.specs.List.Sorted.{IsNonDecreasing}
-use Rattle.tree_maps.specs.Sixteen.{form_of}
+use Rattle.synctree.specs.Sixteen.{form_of}
 use Rattle.tree_repair.specs.Builds.{place}
 use Rattle.tree_repair.specs.Inner.{children_of}
 use Rattle.tree_repair.specs.Runs.{IsRun}

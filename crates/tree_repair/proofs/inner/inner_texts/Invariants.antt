@@ -1,5 +1,5 @@
 use Rattle.std.proofs.Common.{◌≡◌, Some, map, take}
-use Rattle.tree_maps.specs.Sixteen.{form_of}
+use Rattle.synctree.specs.Sixteen.{form_of}
 use Rattle.tree_repair.specs.Builds.{place}
 use Rattle.tree_repair.specs.Inner.{children_of}
 use Rattle.tree_repair.proofs.inner.inner_texts.Given as goal

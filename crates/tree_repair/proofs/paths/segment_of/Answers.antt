@@ -1,7 +1,7 @@
 use Rattle.std.proofs.Common.{◌∙◌, ◌<◌, ap, sym, subst, arith, ℕ, List}
 use Rattle.md5.specs.Md5.{md5}
 use Rattle.tree_node.proofs.TreeVersionLaws.{levels_few}
-use Rattle.tree_maps.proofs.Formats.{nibble_below}
+use Rattle.synctree.proofs.Formats.{nibble_below}
 use Rattle.tree_repair.proofs.Indexes.{path_position, path_above, path_next, path_end}
 use Rattle.tree_repair.proofs.paths.segment_of.Goals as goal
 

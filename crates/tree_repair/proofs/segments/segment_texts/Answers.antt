@@ -4,12 +4,12 @@ use Rattle.std.specs.List.{dedup}
 use Rattle.std.specs.List.Sorted.{IsNonDecreasing}
 use Rattle.tree_node.specs.TreeVersions.{levels}
 use Rattle.tree_node.proofs.TreeVersionLaws.{levels_some}
-use Rattle.tree_maps.specs.Paths.{node_of}
-use Rattle.tree_maps.specs.Sixteen.{form_of}
-use Rattle.tree_maps.proofs.Formats.{form_laws}
+use Rattle.synctree.specs.Paths.{node_of}
+use Rattle.synctree.specs.Sixteen.{form_of}
+use Rattle.synctree.proofs.Formats.{form_laws}
 use Rattle.synctree.proofs.Places.{depth_is}
 use Rattle.tree_repair.specs.Builds.{place}
-use Rattle.tree_repair.specs.Levels.{index_of, indexes_of}
+use Rattle.tree_repair.specs.RepairLevels.{index_of, indexes_of}
 use Rattle.tree_repair.specs.Runs.{IsRun}
 use Rattle.tree_repair.specs.declared.order.Placed.{Placed}
 use Rattle.tree_repair.specs.declared.runs.Run.{Run}

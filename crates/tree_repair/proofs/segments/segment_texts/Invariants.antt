@@ -1,7 +1,7 @@
 use Rattle.std.proofs.Common.{◌≡◌, map, take}
 use Rattle.tree_node.specs.TreeVersions.{levels}
-use Rattle.tree_maps.specs.Paths.{node_of}
-use Rattle.tree_maps.specs.Sixteen.{form_of}
+use Rattle.synctree.specs.Paths.{node_of}
+use Rattle.synctree.specs.Sixteen.{form_of}
 use Rattle.tree_repair.specs.Builds.{place}
 use Rattle.tree_repair.proofs.segments.segment_texts.Given as goal
 

@@ -1,4 +1,4 @@
-use Rattle.ens_fields.proofs.FirstFaultLaws.{field_faults}
+use Rattle.fields.proofs.FirstFaultLaws.{field_faults}
 use Rattle.wire_frames.proofs.MessageLaws.{message_grammar}
 use Rattle.wire_frames.proofs.MessageFaults.{message_faults}
 use Rattle.wire_frames.proofs.CauseLaws.{in_order}

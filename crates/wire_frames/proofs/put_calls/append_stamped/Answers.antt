@@ -1,6 +1,6 @@
 use Rattle.std.proofs.Common.{ℕ, List, [], ◌∷◌, ◌++◌, ap, ◌∙◌, append_assoc}
-use Rattle.ens_fields.specs.Versions.{version_spelling}
-use Rattle.ens_fields.specs.Strings.{value_spelling}
+use Rattle.fields.specs.Versions.{version_spelling}
+use Rattle.fields.specs.Strings.{value_spelling}
 use Rattle.std.proofs.lemmas.Result.{on_ok_weaker}
 use Rattle.wire_frames.proofs.put_calls.append_stamped.Goals as goal
 

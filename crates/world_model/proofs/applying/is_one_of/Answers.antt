@@ -1,5 +1,5 @@
 use Rattle.std.proofs.Common.{rules}
-use Rattle.joint_views.proofs.Memberships.{in_is}
+use Rattle.quorums.proofs.Memberships.{in_is}
 use Rattle.world_model.proofs.applying.is_one_of.Goals as goal
 
 pub returns : goal.returns

@@ -1,4 +1,4 @@
-use Rattle.world_spec.specs.HeldStores.{account}
+use Rattle.world_spec.specs.Held.{account}
 use Rattle.world_model.proofs.Hashed.{clashed_one, filled_one}
 use Rattle.world_model.proofs.hashing.hash.Goals as goal
 

@@ -1,5 +1,5 @@
 use Rattle.std.proofs.Common.{◌≡◌, subst, Bool}
-use Rattle.world_spec.specs.HeldStores.{account, empty_stores}
+use Rattle.world_spec.specs.Held.{account, empty_stores}
 use Rattle.peer_state.specs.declared.state.Mode.{Mode}
 use Rattle.tree_node.specs.declared.version.TreeVersion.{TreeVersion}
 use Rattle.world_spec.specs.Nodes.{Node, Down, hashed_by_start, opening_strings}

@@ -1,4 +1,4 @@
-use Rattle.world_spec.specs.HeldStores.{account}
+use Rattle.world_spec.specs.Held.{account}
 use Rattle.world_spec.specs.Nodes.{opening_strings}
 use Rattle.world_spec.specs.Runs.{opening_mode}
 use Rattle.world_model.proofs.Reached.{start_cut_off}

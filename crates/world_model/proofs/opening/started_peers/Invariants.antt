@@ -1,4 +1,4 @@
-use Rattle.world_spec.specs.HeldStores.{account}
+use Rattle.world_spec.specs.Held.{account}
 use Rattle.world_spec.specs.Runs.{opening_mode}
 use Rattle.world_model.proofs.Starting.{Started}
 use Rattle.world_model.proofs.opening.started_peers.Given as goal

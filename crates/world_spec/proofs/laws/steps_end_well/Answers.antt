@@ -1,8 +1,8 @@
 use Rattle.std.proofs.Common.{[]}
-use Rattle.held_stores.specs.Laws.{held_with}
-use Rattle.held_stores.proofs.PeerPlan.{steps_young}
+use Rattle.world_spec.specs.HeldLaws.{held_with}
+use Rattle.world_spec.proofs.PeerSpec.{steps_young}
 use Rattle.peer_state.specs.Ages.{IsYoung}
-use Rattle.held_stores.specs.PeerPlan.{step_of}
+use Rattle.world_spec.specs.PeerSpec.{step_of}
 use Rattle.world_spec.proofs.Ending.{run_finishes}
 use Rattle.world_spec.proofs.laws.steps_end_well.Goals as goal
 

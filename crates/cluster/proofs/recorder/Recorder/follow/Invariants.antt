@@ -1,6 +1,6 @@
 use Rattle.std.proofs.Common.{◌≡◌}
 use Rattle.std.specs.Vec.Iter.{into_iter_items}
-use Rattle.world_model.specs.HeldStores.{account}
+use Rattle.world_model.specs.WorldSpec.{account}
 use Rattle.cluster.specs.Recorders.{IsInStep, mail_in}
 use Rattle.cluster.proofs.Lines.{Underway}
 use Rattle.cluster.proofs.recorder.Recorder.follow.Given as goal

@@ -1,7 +1,7 @@
 use Rattle.std.proofs.Common.{◌≡◌, ℕ, List, Option, Ok}
-use Rattle.cluster_spec.specs.Recordings.{Recording}
+use Rattle.cluster.specs.Recordings.{Recording}
 use Rattle.ens_base.specs.declared.peer_words.ClusterWords.{ClusterWords}
-use Rattle.world_model.specs.HeldStores.{Account, account}
+use Rattle.world_model.specs.WorldSpec.{Account, account}
 use Rattle.cluster.specs.Recorders.{Hears, IsInStep, Reached, mail_in}
 use Rattle.cluster.proofs.recorder.Recorder.turn.Given as goal
 

@@ -1,6 +1,6 @@
 use Rattle.std.proofs.Common.{◌≡◌, ◌+◌, ◌-◌, [], ◌∷◌, List, ℕ, None, Some, length, get_or, sym, ap, ◌∙◌, rules, arith}
 use Rattle.register_model.specs.declared.history.History.{History}
-use Rattle.history_faults.specs.Clauses.{first_stray}
+use Rattle.history_record.specs.Clauses.{first_stray}
 use Rattle.history_record.specs.Calls.{calls_from}
 use Rattle.history_record.specs.Telling.{Heard}
 use Rattle.history_record.proofs.Shortening.{last_kept, last_set, short_sound}

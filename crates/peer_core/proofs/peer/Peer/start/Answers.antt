@@ -1,5 +1,5 @@
 use Rattle.std.proofs.Common.{[]}
-use Rattle.peer_plan.specs.Starts.{start_of}
+use Rattle.peer_spec.specs.Starts.{start_of}
 use Rattle.peer_core.proofs.Counts.{start_backend, start_only, stopped_cause}
 use Rattle.peer_core.proofs.peer.Peer.start.Goals as goal
 

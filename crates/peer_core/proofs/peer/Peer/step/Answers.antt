@@ -4,8 +4,8 @@ use Rattle.std.proofs.lemmas.Bool.{true≢false}
 use Rattle.peer_stores.specs.Stores.{stores_do, stores_refuse}
 use Rattle.peer_core.proofs.Damage.{stores_sound}
 use Rattle.peer_core.proofs.Halts.{causes, only, not_halted}
-use Rattle.peer_plan.proofs.Ends.{on_ok}
-use Rattle.peer_plan.proofs.Passing.{all_may_go, still_own}
+use Rattle.peer_spec.proofs.Ends.{on_ok}
+use Rattle.peer_spec.proofs.Passing.{all_may_go, still_own}
 use Rattle.peer_core.proofs.peer.Peer.step.Goals as goal
 
 runs_on : {A E : Type 0} (r : Result A E) (halted : Bool) → halted ≡ is_err r → OnOk r (halted ≡ false)

@@ -2,11 +2,11 @@ use Rattle.std.proofs.Common.{◌≡◌, true, sym, subst}
 use Rattle.step_plans.specs.Outboxes.{out_of}
 use Rattle.step_plans.specs.Plans.{Runs}
 use Rattle.step_plans.proofs.Parts.{did_after}
-use Rattle.peer_plan.specs.Drives.{row_done, delivered}
+use Rattle.peer_spec.specs.Drives.{row_done, delivered}
 use Rattle.peer_state.specs.NoAllocation.{ends_step, IsFreeRow}
 use Rattle.peer_machine.specs.Outcomes.{spot}
-use Rattle.peer_plan.proofs.Delivering.{delivered_row}
-use Rattle.peer_plan.proofs.FreeRows.{received_free, received_ends}
+use Rattle.peer_spec.proofs.Delivering.{delivered_row}
+use Rattle.peer_spec.proofs.FreeRows.{received_free, received_ends}
 use Rattle.peer_machine.proofs.machine.Machine.deliver.Goals as goal
 
 pub returns-in_default-clause-fits : goal.returns-in_default-clause-fits

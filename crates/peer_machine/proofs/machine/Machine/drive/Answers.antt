@@ -2,7 +2,7 @@ use Rattle.std.proofs.Common.{◌≡◌, ◌-◌, List, [], ◌∷◌, sym, ◌�
 use Rattle.step_plans.specs.declared.tasks.Task.{Task}
 use Rattle.step_plans.proofs.Growing.{grows_after}
 use Rattle.peer_machine.specs.Outcomes.{spot}
-use Rattle.peer_plan.proofs.Parts.{all_done, no_turns, one_done, one_stopped, cut}
+use Rattle.peer_spec.proofs.Parts.{all_done, no_turns, one_done, one_stopped, cut}
 use Rattle.peer_machine.proofs.machine.Machine.drive.Goals as goal
 
 not_none : (ts rest : List Task) (task : Task) → ts ≡ [] → ts ≡ task ∷ rest → ⊥

@@ -1,6 +1,6 @@
 use Rattle.std.proofs.Common.{◌≡◌, ◌-◌, List, []}
 use Rattle.register_model.specs.declared.note.Note.{Note}
-use Rattle.peer_plan.specs.Drives.{driven}
+use Rattle.peer_spec.specs.Drives.{driven}
 use Rattle.step_plans.specs.Outboxes.{Grows, out_of}
 use Rattle.step_plans.specs.Plans.{Rest, Ending, Runs}
 use Rattle.step_plans.specs.declared.tasks.Task.{Task}

@@ -1,5 +1,5 @@
 use Rattle.std.proofs.Common.{sym, subst}
-use Rattle.peer_plan.specs.Drives.{owned}
+use Rattle.peer_spec.specs.Drives.{owned}
 use Rattle.peer_machine.specs.Outcomes.{Acts}
 use Rattle.peer_machine.proofs.machine.Machine.owned.Goals as goal
 

@@ -1,5 +1,5 @@
 use Rattle.std.proofs.Common.{sym, subst}
-use Rattle.peer_plan.specs.Drives.{put_done}
+use Rattle.peer_spec.specs.Drives.{put_done}
 use Rattle.peer_machine.specs.Outcomes.{Acts}
 use Rattle.peer_machine.proofs.machine.Machine.put_done.Goals as goal
 

@@ -1,10 +1,10 @@
 use Rattle.std.proofs.Common.{subst}
-use Rattle.running_sync.specs.Rows.{row_start}
+use Rattle.tree_sync.specs.Rows.{row_start}
 use Rattle.step_plans.specs.Outboxes.{out_of}
 use Rattle.step_plans.specs.Plans.{Runs}
 use Rattle.step_plans.proofs.Parts.{did_after}
 use Rattle.peer_machine.specs.Outcomes.{spot}
-use Rattle.peer_plan.specs.Syncs.{start_sync, go_on}
+use Rattle.peer_spec.specs.Syncs.{start_sync, go_on}
 use Rattle.peer_machine.proofs.machine.Machine.start_sync.Goals as goal
 
 pub returns-clause-acts : goal.returns-clause-acts

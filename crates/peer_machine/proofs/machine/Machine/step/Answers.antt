@@ -1,8 +1,8 @@
 use Rattle.std.proofs.Common.{ap, arith, length}
 use Rattle.peer_machine.specs.Outcomes.{spot}
-use Rattle.peer_plan.proofs.Framed.{has_finished, has_stopped}
-use Rattle.peer_plan.proofs.FreeRows.{one_sent}
-use Rattle.peer_plan.proofs.Closing.{ended_young, ended_steady}
+use Rattle.peer_spec.proofs.Framed.{has_finished, has_stopped}
+use Rattle.peer_spec.proofs.FreeRows.{one_sent}
+use Rattle.peer_spec.proofs.Closing.{ended_young, ended_steady}
 use Rattle.peer_machine.proofs.machine.Machine.step.Goals as goal
 
 pub returns-in-Ok-clause-steps : goal.returns-in-Ok-clause-steps

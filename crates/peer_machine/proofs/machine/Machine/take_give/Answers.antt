@@ -3,9 +3,9 @@ use Rattle.step_plans.specs.Outboxes.{out_of}
 use Rattle.step_plans.specs.Plans.{Plan, Runs}
 use Rattle.step_plans.proofs.Parts.{did_after}
 use Rattle.peer_machine.specs.Outcomes.{spot}
-use Rattle.peer_plan.specs.Syncs.{take_give, go_on}
+use Rattle.peer_spec.specs.Syncs.{take_give, go_on}
 use Rattle.peer_state.specs.declared.state.State.{State}
-use Rattle.peer_plan.proofs.Syncs.{go_on_without}
+use Rattle.peer_spec.proofs.Syncs.{go_on_without}
 use Rattle.peer_machine.proofs.machine.Machine.take_give.Goals as goal
 
 pub returns-in_ok-sends-in-Some-clause-acts : goal.returns-in_ok-sends-in-Some-clause-acts

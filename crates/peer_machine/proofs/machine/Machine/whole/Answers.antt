@@ -1,6 +1,6 @@
 use Rattle.std.proofs.Common.{rules}
 use Rattle.peer_machine.specs.Outcomes.{spot}
-use Rattle.peer_plan.proofs.FreeRows.{still_steady}
+use Rattle.peer_spec.proofs.FreeRows.{still_steady}
 use Rattle.peer_machine.proofs.machine.Machine.whole.Goals as goal
 
 pub returns-in_err-conclude-clause-fits : goal.returns-in_err-conclude-clause-fits

@@ -1,6 +1,6 @@
 use Rattle.std.proofs.Common.{subst}
 use Rattle.peer_machine.specs.Outcomes.{Acts}
-use Rattle.peer_plan.specs.Owns.{written_as}
+use Rattle.peer_spec.specs.Owns.{written_as}
 use Rattle.peer_machine.proofs.machine.Machine.write_bytes.Goals as goal
 
 pub returns : goal.returns

@@ -1,7 +1,7 @@
 use Rattle.std.proofs.Common.{subst}
 use Rattle.step_plans.proofs.Parts.{did_after}
 use Rattle.phase_rows.specs.declared.phase.Then.TheVariants as thens
-use Rattle.peer_plan.specs.Drives.{row_done, after_put, put_done}
+use Rattle.peer_spec.specs.Drives.{row_done, after_put, put_done}
 use Rattle.peer_machine.specs.Outcomes.{Acts, spot}
 use Rattle.peer_machine.proofs.machine.Machine.write_put.Goals as goal
 

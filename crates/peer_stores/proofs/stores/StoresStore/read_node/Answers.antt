@@ -1,5 +1,5 @@
 use Rattle.std.proofs.Common.{◌≡◌, true, false, refl, sym, subst, ◌∙◌}
-use Rattle.peer_plan.specs.TreeCalls.{has_position}
+use Rattle.peer_spec.specs.TreeCalls.{has_position}
 use Rattle.tree_node.specs.Positions.{IsPosition}
 use Rattle.tree_node.specs.declared.version.TreeVersion.{TreeVersion}
 use Rattle.peer_stores.proofs.TreeCounts.{node_read, node_absent}

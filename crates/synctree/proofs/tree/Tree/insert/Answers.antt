@@ -1,5 +1,5 @@
-use Rattle.tree_maps.specs.Sixteen.{form_of}
-use Rattle.tree_maps.proofs.Formats.{form_laws}
+use Rattle.synctree.specs.Sixteen.{form_of}
+use Rattle.synctree.proofs.Formats.{form_laws}
 use Rattle.synctree.specs.Outsides.{outside_does, outside_refuses}
 use Rattle.synctree.proofs.Standing.{inserts_of}
 use Rattle.synctree.proofs.tree.Tree.insert.Goals as goal

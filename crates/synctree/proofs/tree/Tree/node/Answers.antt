@@ -1,7 +1,7 @@
 use Rattle.std.proofs.Common.{◌-◌}
-use Rattle.tree_maps.specs.TreeNode.{levels}
-use Rattle.tree_maps.specs.Sixteen.{form_of}
-use Rattle.tree_maps.proofs.Formats.{form_laws}
+use Rattle.synctree.specs.TreeNode.{levels}
+use Rattle.synctree.specs.Sixteen.{form_of}
+use Rattle.synctree.proofs.Formats.{form_laws}
 use Rattle.synctree.specs.Outsides.{outside_does, outside_refuses}
 use Rattle.synctree.proofs.Places.{place_of}
 use Rattle.synctree.proofs.Descending.{reads_of}

@@ -1,5 +1,5 @@
 use Rattle.std.proofs.Common.{[]}
-use Rattle.world_spec.proofs.HeldStores.{hashed_none}
+use Rattle.world_spec.proofs.Taken.{hashed_none}
 use Rattle.world_spec.proofs.Growth.{counted_grows}
 use Rattle.world_spec.specs.Lines.{applied, effect}
 use Rattle.world_model.specs.Worlds.{run_of}

@@ -1,6 +1,6 @@
 use Rattle.std.proofs.Common.{subst, sym, ◌∙◌}
 use Rattle.network.specs.Mail.{most_messages}
-use Rattle.world_spec.specs.HeldStores.{account}
+use Rattle.world_spec.specs.Held.{account}
 use Rattle.world_spec.specs.Runs.{Run, delivered, calmed}
 use Rattle.world_model.specs.Worlds.{run_of}
 use Rattle.world_model.proofs.Loops.{calming_first, calming_next, calming_longer, calming_ends, calming_last, turn_is}

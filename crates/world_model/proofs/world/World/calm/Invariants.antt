@@ -1,4 +1,4 @@
-use Rattle.world_spec.specs.HeldStores.{account}
+use Rattle.world_spec.specs.Held.{account}
 use Rattle.world_model.proofs.Loops.{Calming}
 use Rattle.world_model.proofs.world.World.calm.Given as goal
 

@@ -1,4 +1,4 @@
-use Rattle.world_spec.specs.HeldStores.{HasHashed, account}
+use Rattle.world_spec.specs.Held.{HasHashed, account}
 use Rattle.std.proofs.Common.{rules, ℕ, List, [], ◌∷◌, subst, ◌≡◌, ◌-◌, Some, refl, map, slice_get, slice_set}
 use Rattle.std.proofs.lemmas.Option.{slice_get_read}
 use Rattle.world_spec.specs.Nodes.{over_stores}

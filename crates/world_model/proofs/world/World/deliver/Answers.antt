@@ -3,7 +3,7 @@ use Rattle.std.proofs.lemmas.Bool.{lt-ltb, le-ltb}
 use Rattle.std.proofs.lemmas.Grind.{common_steps}
 use Rattle.network.specs.Mail.{Mail, settled}
 use Rattle.peer_state.specs.declared.event.Event.TheVariants as events
-use Rattle.world_spec.specs.HeldStores.{account}
+use Rattle.world_spec.specs.Held.{account}
 use Rattle.std.proofs.lemmas.Option.{slice_get_read, slice_get_past}
 use Rattle.wire_frames.specs.declared.frame.Frame.{Frame}
 use Rattle.world_spec.specs.Messages.{IsWithinMessages}

@@ -2,9 +2,9 @@ use Rattle.std.proofs.Common.{arith, rules, ◌≡◌, ◌∙◌, ◌≤◌, Opt
 use Rattle.std.proofs.lemmas.Grind.{common_steps}
 use Rattle.std.proofs.lemmas.List.{length-map}
 use Rattle.std.proofs.lemmas.Option.{slice_get_read}
-use Rattle.ens_hashing.specs.Hashing.{Book}
-use Rattle.world_spec.proofs.HeldStores.{are_apart, hashed_none}
-use Rattle.world_spec.specs.HeldStores.{HasTaken}
+use Rattle.hash_book.specs.Hashing.{Book}
+use Rattle.world_spec.proofs.Taken.{are_apart, hashed_none}
+use Rattle.world_spec.specs.Held.{HasTaken}
 use Rattle.world_spec.specs.Lines.{applied, run_of_schedule}
 use Rattle.world_spec.specs.Runs.{opening_run}
 use Rattle.world_model.specs.Peers.{node_of}

@@ -1,4 +1,4 @@
-use Rattle.world_spec.specs.HeldStores.{account}
+use Rattle.world_spec.specs.Held.{account}
 use Rattle.world_model.specs.Worlds.{run_of}
 use Rattle.world_model.proofs.Events.{Running}
 use Rattle.world_model.proofs.world.World.run.Given as goal

@@ -1,7 +1,8 @@
 use Rattle.std.proofs.Common.{rules, ◌≡◌, ◌-◌, ℕ, Some, List, [], refl, sym, subst, slice_get}
 use Rattle.std.proofs.lemmas.Option.{slice_get_read}
-use Rattle.world_spec.proofs.HeldStores.{hashed_none}
-use Rattle.world_spec.specs.HeldStores.{account, HasHashed, AllMayGo}
+use Rattle.world_spec.proofs.Taken.{hashed_none}
+use Rattle.world_spec.specs.Held.{account, HasHashed}
+use Rattle.world_spec.specs.PeerSpec.{AllMayGo}
 use Rattle.step_plans.specs.Outboxes.{out_of}
 use Rattle.world_spec.proofs.Growth.{further_same}
 use Rattle.world_spec.specs.Nodes.{taken}

@@ -1,6 +1,6 @@
 use Rattle.std.proofs.Common.{ℕ, List, ap, ◌∙◌, rules}
 use Rattle.ens_base.specs.contracts.digest.DigestPartialEq.TheImpl.{eq-value}
-use Rattle.ens_outside.specs.Maps.{Entries, with_value}
+use Rattle.environment.specs.Maps.{Entries, with_value}
 use Rattle.world_stores.specs.Maps.{map_of}
 use Rattle.world_stores.specs.Nodes.{Nodes}
 use Rattle.world_stores.proofs.Tables.{table_inserted}

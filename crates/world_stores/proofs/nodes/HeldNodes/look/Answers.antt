@@ -1,6 +1,6 @@
 use Rattle.std.proofs.Common.{ap, sym, ◌∙◌, Some, rules}
 use Rattle.ens_base.specs.contracts.digest.DigestPartialEq.TheImpl.{eq-value}
-use Rattle.ens_outside.specs.Maps.{value_at}
+use Rattle.environment.specs.Maps.{value_at}
 use Rattle.world_stores.specs.Nodes.{Nodes}
 use Rattle.world_stores.proofs.Tables.{table_found}
 use Rattle.world_stores.proofs.nodes.HeldNodes.look.Goals as goal

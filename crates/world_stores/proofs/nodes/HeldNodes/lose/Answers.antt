@@ -1,6 +1,6 @@
 use Rattle.std.proofs.Common.{ap, ◌∙◌, rules}
 use Rattle.ens_base.specs.contracts.digest.DigestPartialEq.TheImpl.{eq-value}
-use Rattle.ens_outside.specs.Maps.{Entries}
+use Rattle.environment.specs.Maps.{Entries}
 use Rattle.world_stores.specs.Maps.{without}
 use Rattle.world_stores.specs.Nodes.{Nodes}
 use Rattle.world_stores.proofs.Tables.{table_lost}

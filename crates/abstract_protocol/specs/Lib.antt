@@ -1,5 +1,0 @@
-pub mod Numbers
-pub mod Ledger
-pub mod Objects
-pub mod Book
-pub mod Protocol

@@ -1,0 +1,9 @@
+pub mod Rising
+pub mod Reported
+pub mod Texts
+pub mod Alike
+pub mod NextLine
+pub mod Parts
+pub mod Cutting
+pub mod RecordsAlike
+pub mod Printing

@@ -1,5 +1,0 @@
-use Rattle.call_refinement.proofs.ScheduleLaws.{schedules_run}
-use Rattle.call_refinement.proofs.laws.schedules_refine_the_protocol.Goals as goal
-
-pub returns : goal.returns
-returns c = schedules_run

@@ -1,0 +1,2 @@
+pub mod WorldSpec
+pub mod PeerRefinement

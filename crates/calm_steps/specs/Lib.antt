@@ -1,2 +1,0 @@
-pub mod HeldStores
-pub mod TreeRefinement

@@ -1,5 +1,0 @@
-use Rattle.cluster_spec.proofs.Recorded.{keeps_script}
-use Rattle.cluster_spec.proofs.laws.a_recording_keeps_the_script.Goals as goal
-
-pub returns : goal.returns
-returns c = keeps_script

@@ -1,5 +1,0 @@
-use Rattle.cluster_spec.proofs.Delivering.{delivered_once}
-use Rattle.cluster_spec.proofs.laws.each_message_is_delivered_once.Goals as goal
-
-pub returns : goal.returns
-returns c = delivered_once

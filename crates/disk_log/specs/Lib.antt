@@ -1,5 +1,0 @@
-pub mod Records
-pub mod LogFiles
-pub mod Logs
-pub mod Recents
-pub mod Scans

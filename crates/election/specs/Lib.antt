@@ -1,4 +1,0 @@
-pub mod Ballots
-pub mod Preparing
-pub mod Starting
-pub mod Laws

@@ -1,4 +1,0 @@
-pub mod Sound
-pub mod Epochs
-pub mod Rising
-pub mod Prepared

@@ -1,5 +1,0 @@
-use Rattle.election_laws.proofs.Epochs.{run_elections}
-use Rattle.election_laws.proofs.elections.elections_are_safe.Goals as goal
-
-pub returns : goal.returns
-returns c = run_elections

@@ -1,5 +1,0 @@
-use Rattle.election_laws.proofs.Rising.{run_stays}
-use Rattle.election_laws.proofs.elections.elections_stay.Goals as goal
-
-pub returns : goal.returns
-returns c = run_stays

@@ -1,5 +1,0 @@
-use Rattle.election_laws.proofs.Epochs.{run_lists}
-use Rattle.election_laws.proofs.elections.lists_share_a_view.Goals as goal
-
-pub returns : goal.returns
-returns c = run_lists

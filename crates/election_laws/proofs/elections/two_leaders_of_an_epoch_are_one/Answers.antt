@@ -1,5 +1,0 @@
-use Rattle.election_laws.proofs.Rising.{run_once}
-use Rattle.election_laws.proofs.elections.two_leaders_of_an_epoch_are_one.Goals as goal
-
-pub returns : goal.returns
-returns c = run_once

@@ -1,2 +1,0 @@
-pub mod Elections
-pub mod Preparing

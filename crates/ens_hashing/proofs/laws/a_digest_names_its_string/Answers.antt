@@ -1,5 +1,0 @@
-use Rattle.ens_hashing.proofs.ClashFree.{same_string}
-use Rattle.ens_hashing.proofs.laws.a_digest_names_its_string.Goals as goal
-
-pub returns : goal.returns
-returns c = same_string

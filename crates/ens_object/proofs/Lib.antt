@@ -1,2 +1,0 @@
-pub mod ObjectLaws
-pub mod ObjectFaults

@@ -1,9 +1,0 @@
-use Rattle.ens_fields.proofs.GrammarLaws.{apart}
-use Rattle.ens_object.proofs.ObjectLaws.{object_grammar}
-use Rattle.ens_object.proofs.laws.objects_stand_apart.Goals as goal
-
-pub returns-clause-grammar : goal.returns-clause-grammar
-returns-clause-grammar c = object_grammar
-
-pub returns-clause-apart : goal.returns-clause-apart
-returns-clause-apart c = apart object_grammar

@@ -1,7 +1,0 @@
-pub mod Worlds
-pub mod Hashed
-pub mod Ends
-pub mod Standing
-pub mod Slots
-pub mod Histories
-pub mod Jobs

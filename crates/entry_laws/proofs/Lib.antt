@@ -1,3 +1,0 @@
-pub mod Later
-pub mod Entries
-pub mod Replies

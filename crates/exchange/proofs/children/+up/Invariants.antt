@@ -1,4 +1,0 @@
-use Rattle.exchange.proofs.children.+up.Given as goal
-
-abbrev pub decreases-up : goal.decreases-up
-decreases-up l = l.levels

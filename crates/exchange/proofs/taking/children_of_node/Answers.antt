@@ -1,5 +1,0 @@
-use Rattle.exchange.proofs.Widths.{children_width}
-use Rattle.exchange.proofs.taking.children_of_node.Goals as goal
-
-pub returns-in-Ok-clause-width : goal.returns-in-Ok-clause-width
-returns-in-Ok-clause-width c = children_width c.args.node.now.mask c.args.node.now.digests c.in-Ok.names (c.in-Ok.ensures).ok

@@ -1,7 +1,0 @@
-use Rattle.following.specs.Refusals.{refusal}
-use Rattle.following.specs.Requests.{puts}
-use Rattle.following.proofs.Distrust.{puts_distrust, refusals_keep, unless_distrust}
-use Rattle.following.proofs.laws.damage_ends_trust.Goals as goal
-
-pub returns-clause-written : goal.returns-clause-written
-returns-clause-written c = λ fact trusted from ballot object seen. unless_distrust (refusal fact trusted from ballot) (puts from ballot object seen) (refusals_keep fact trusted from ballot) (puts_distrust from ballot object seen)

@@ -1,8 +1,0 @@
-use Rattle.group_lives.proofs.Joining.{keep_time, linearizable}
-use Rattle.group_lives.proofs.laws.processes_are_linearizable.Goals as goal
-
-pub returns-clause-legal : goal.returns-clause-legal
-returns-clause-legal g c = linearizable g.D.Disk.seen g.D.Disk.fault_count
-
-pub returns-clause-in_time : goal.returns-clause-in_time
-returns-clause-in_time g c = keep_time g.D.Disk.seen g.D.Disk.fault_count

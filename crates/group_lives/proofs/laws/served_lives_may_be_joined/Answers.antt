@@ -1,5 +1,0 @@
-use Rattle.group_lives.proofs.Serving.{served_join}
-use Rattle.group_lives.proofs.laws.served_lives_may_be_joined.Goals as goal
-
-pub returns : goal.returns
-returns g c = served_join g.D.Disk.seen g.D.Disk.may_leave g.D.Disk.moment g.D.Disk.left_since g.D.Disk.fault_count g.L.Link.sent g.L.Link.given g.L.Link.fault_count g.T.Ticker.coming

@@ -1,6 +1,0 @@
-pub mod Taken
-pub mod Books
-pub mod Walking
-pub mod Answering
-pub mod Determined
-pub mod PeerPlan

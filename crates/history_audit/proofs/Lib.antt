@@ -1,4 +1,0 @@
-pub mod Rising
-pub mod Reported
-pub mod Texts
-pub mod Alike

@@ -1,7 +1,0 @@
-use Rattle.std.proofs.Common.{◌≡◌, map, take}
-use Rattle.serde_json.specs.View.{view}
-use Rattle.history_audit.specs.Text.{fault_data}
-use Rattle.history_audit.proofs.text.fault_values.Given as goal
-
-abbrev pub invariant-loop-fault : goal.invariant-loop-fault
-invariant-loop-fault l = map view l.values.items ≡ map fault_data (take l.fault-index l.faults)

@@ -1,4 +1,0 @@
-pub mod Lookups
-pub mod Clauses
-pub mod Faults
-pub mod Shortened

@@ -1,0 +1,13 @@
+use Rattle.std.proofs.Common.{sym, ◌∙◌}
+use Rattle.std.specs.Prelude.{◌&&◌, nat_lt}
+use Rattle.register_model.specs.declared.answer.Answer.{Answer}
+use Rattle.register_model.specs.Histories.{is_done}
+use Rattle.history_record.proofs.Lookups.{any_none, any_one}
+use Rattle.history_record.proofs.answers.done_at.Goals as goal
+
+pub returns-in-Some : goal.returns-in-Some
+returns-in-Some c = λ event.
+    any_one (λ (a : Answer). a.id) (λ (a : Answer). is_done a.reply && nat_lt a.event event) c.args.answers.now c.args.id c.in-Some.answer.now c.requires.once c.in-Some.ensures.found.0 c.in-Some.ensures.found.1 ∙ sym (c.event_if_done.ensures event)
+
+pub returns-in-None : goal.returns-in-None
+returns-in-None c = λ event. any_none (λ (a : Answer). a.id) (λ (a : Answer). is_done a.reply && nat_lt a.event event) c.args.answers.now c.args.id c.in-None.ensures.none

@@ -1,6 +1,0 @@
-use Rattle.std.proofs.Common.{rules}
-use Rattle.joint_views.proofs.Memberships.{in_is}
-use Rattle.joint_views.proofs.tally.is_in.Goals as goal
-
-pub returns-clause-member : goal.returns-clause-member
-returns-clause-member c = in_is c.args.view.now c.args.peer _ (search rules)

@@ -1,2 +1,0 @@
-pub mod Quorums
-pub mod Members

@@ -1,0 +1,9 @@
+pub mod Leaders
+pub mod Starts
+pub mod Rounds
+pub mod Puts
+pub mod Ticks
+pub mod Rules
+pub mod CallTable
+pub mod ObjectCommands
+pub mod LeaderOutput

@@ -1,0 +1,18 @@
+use Rattle.leader_laws.proofs.Steps.{lead_step, row_29_reply_step, row_33_reply_step, row_35_reply_step}
+use Rattle.leader_laws.proofs.TimeOuts.{row_5_ticks}
+use Rattle.leader_laws.proofs.laws.answered_calls_were_waiting.Goals as goal
+
+pub returns-clause-key : goal.returns-clause-key
+returns-clause-key c = λ n key seen l. (lead_step n key seen l).serves
+
+pub returns-clause-got : goal.returns-clause-got
+returns-clause-got c = λ from ballot round key entry object l. (row_29_reply_step from ballot round key entry object l).serves
+
+pub returns-clause-checked : goal.returns-clause-checked
+returns-clause-checked c = λ from ballot round l. ((row_33_reply_step from ballot round l).0, (row_33_reply_step from ballot round l).1.serves)
+
+pub returns-clause-put : goal.returns-clause-put
+returns-clause-put c = λ from ballot key version l. (row_35_reply_step from ballot key version l).serves
+
+pub returns-clause-tick : goal.returns-clause-tick
+returns-clause-tick c = λ finishing l. (row_5_ticks finishing l).timely

@@ -1,5 +1,0 @@
-use Rattle.leader_laws.proofs.Runs.{run_leaders}
-use Rattle.leader_laws.proofs.leaders.leaders_move.Goals as goal
-
-pub returns : goal.returns
-returns c = run_leaders

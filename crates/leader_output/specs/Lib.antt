@@ -1,0 +1,6 @@
+pub mod Outs
+pub mod Sends
+pub mod ObjectCommands
+pub mod PhaseRows
+pub mod RegisterModel
+pub mod WireFrames

@@ -1,6 +1,0 @@
-pub mod Outs
-pub mod Sends
-pub mod KeyCommands
-pub mod PhaseRows
-pub mod RegisterModel
-pub mod WireFrames

@@ -1,2 +1,0 @@
--- What the crates above name of register_model, passed on.
-pub use Rattle.key_commands.specs.RegisterModel.{Note}

@@ -1,9 +1,0 @@
-pub mod Leaders
-pub mod Starts
-pub mod Rounds
-pub mod Puts
-pub mod Ticks
-pub mod Rules
-pub mod CallTable
-pub mod KeptObjects
-pub mod LeaderWords

@@ -1,5 +1,0 @@
-pub mod Segments
-pub mod Digests
-pub mod Stepping
-pub mod Builds
-pub mod TreeRepair

@@ -1,6 +1,0 @@
-use Rattle.std.proofs.Common.{◌≡◌}
-use Rattle.node_faults.proofs.Segments.{on_path}
-use Rattle.node_faults.proofs.naming.segment_of.Given as goal
-
-abbrev pub invariant-loop-level : goal.invariant-loop-level
-invariant-loop-level l = l.at ≡ on_path l.fn.version l.key l.level

@@ -1,4 +1,0 @@
-pub mod Naming
-pub mod Faults
-pub mod Laws
-pub mod TreeRepair

@@ -1,3 +1,0 @@
-pub mod Moments
-pub mod Premises
-pub mod Witness

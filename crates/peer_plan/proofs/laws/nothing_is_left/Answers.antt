@@ -1,8 +1,0 @@
-use Rattle.peer_plan.proofs.Fuel.{responded_left, concluded_left}
-use Rattle.peer_plan.proofs.laws.nothing_is_left.Goals as goal
-
-pub returns-clause-responded : goal.returns-clause-responded
-returns-clause-responded c = responded_left
-
-pub returns-clause-concluded : goal.returns-clause-concluded
-returns-clause-concluded c = concluded_left

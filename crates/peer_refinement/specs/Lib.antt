@@ -1,0 +1,14 @@
+pub mod Trees
+pub mod TreeLaws
+pub mod Whole
+pub mod Tops
+pub mod Rooted
+pub mod Naming
+pub mod Replies
+pub mod RequestLaws
+pub mod Seen
+pub mod Syncs
+pub mod SyncLaws
+pub mod WorldSpec
+pub mod PeerSpec
+pub mod LeaderRefinement

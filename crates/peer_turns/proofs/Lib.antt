@@ -1,0 +1,10 @@
+pub mod Served
+pub mod Moved
+pub mod Walking
+pub mod Ran
+pub mod Steps
+pub mod Counting
+pub mod Following
+pub mod Coming
+pub mod Taken
+pub mod Prefixes

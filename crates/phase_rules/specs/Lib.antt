@@ -1,0 +1,13 @@
+pub mod Probing
+pub mod ProbeLaws
+pub mod Ballots
+pub mod Preparing
+pub mod Starting
+pub mod ElectionLaws
+pub mod Follower
+pub mod Refusals
+pub mod Announcements
+pub mod Requests
+pub mod Effects
+pub mod Changes
+pub mod Finishing

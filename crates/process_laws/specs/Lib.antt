@@ -1,0 +1,14 @@
+pub mod ServedLives
+pub mod Served
+pub mod Moments
+pub mod Premises
+pub mod GroupWitness
+pub mod Laws
+pub mod Memory
+pub mod Acts
+pub mod Lives
+pub mod Clients
+pub mod Joined
+pub mod JoinedServed
+pub mod Alone
+pub mod ProcessWitness

@@ -1,0 +1,10 @@
+pub mod Numbers
+pub mod Ledger
+pub mod Objects
+pub mod Book
+pub mod Protocol
+pub mod Elections
+pub mod Preparing
+pub mod Versions
+pub mod Entries
+pub mod Stays

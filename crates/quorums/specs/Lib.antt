@@ -1,0 +1,3 @@
+pub mod Quorums
+pub mod Members
+pub mod Rounds

@@ -1,4 +1,0 @@
-pub mod NextLine
-pub mod Parts
-pub mod Cutting
-pub mod Alike

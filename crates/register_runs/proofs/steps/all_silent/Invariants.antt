@@ -1,6 +1,0 @@
-use Rattle.std.proofs.Common.{◌≡◌, take}
-use Rattle.register_runs.specs.Guesses.{all_silent}
-use Rattle.register_runs.proofs.steps.all_silent.Given as goal
-
-abbrev pub invariant-loop-possible : goal.invariant-loop-possible
-invariant-loop-possible l = l.next.items ≡ all_silent l.known l.command (take l.possible-index l.list)

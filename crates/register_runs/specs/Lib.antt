@@ -1,6 +1,0 @@
-pub mod Stamps
-pub mod Guesses
-pub mod Meanings
-pub mod Places
-pub mod Walks
-pub mod Fronts

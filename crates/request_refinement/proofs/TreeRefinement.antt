@@ -1,2 +1,0 @@
--- What the crates above name of tree_refinement, passed on.
-pub use Rattle.tree_refinement.proofs.Foreign.{passes_same}

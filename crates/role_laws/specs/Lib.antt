@@ -1,0 +1,16 @@
+pub mod Tables
+pub mod Leaders
+pub mod LeaderMessages
+pub mod Moves
+pub mod LeaderLaws
+pub mod Roles
+pub mod Rows
+pub mod Facts
+pub mod Trees
+pub mod Syncs
+pub mod Exchange
+pub mod Peers
+pub mod SyncMessages
+pub mod Kept
+pub mod Ends
+pub mod SealLaws

@@ -1,3 +1,0 @@
-mod Numbered
-mod Refusing
-pub mod Scripts

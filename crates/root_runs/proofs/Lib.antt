@@ -1,8 +1,0 @@
-pub mod Lines
-pub mod Calls
-pub mod Sources
-pub mod Views
-pub mod Histories
-pub mod Told
-pub mod Fronts
-pub mod Opened

@@ -1,5 +1,0 @@
-use Rattle.root_runs.proofs.Histories.{run_legal}
-use Rattle.root_runs.proofs.laws.root_runs_are_legal.Goals as goal
-
-pub returns : goal.returns
-returns c = λ worlds s script stories. run_legal worlds s script stories

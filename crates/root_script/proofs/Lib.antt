@@ -1,9 +1,0 @@
-pub mod Splits
-pub mod Refusals
-pub mod Lines
-pub mod Openings
-pub mod Ids
-pub mod EventsRead
-pub mod Heading
-pub mod ScriptsRead
-pub mod Parts

@@ -1,6 +1,0 @@
-pub mod InTree
-pub mod Keeping
-pub mod Messages
-pub mod Others
-pub mod Places
-pub mod Walking

@@ -1,6 +1,0 @@
-use Rattle.std.proofs.Common.{◌≡◌, take}
-use Rattle.running_sync.specs.Asks.{questions}
-use Rattle.running_sync.proofs.running.questions.Given as goal
-
-abbrev pub invariant-loop-asking : goal.invariant-loop-asking
-invariant-loop-asking l = l.sends.items ≡ questions l.ballot (take l.asking-index l.asks)

@@ -1,3 +1,0 @@
-pub mod Searches
-pub mod Lines
-pub mod Soundness

@@ -1,7 +1,0 @@
-use Rattle.std.proofs.Common.{◌≡◌, ◌++◌, string_bytes, take}
-use Rattle.schedule_words.specs.Spelling.{member_words}
-use Rattle.schedule_text.specs.Writing.{spaced}
-use Rattle.schedule_premise.proofs.text.push_members.Given as goal
-
-abbrev pub invariant-loop-member : goal.invariant-loop-member
-invariant-loop-member l = string_bytes l.text ≡ string_bytes l.fn.text ++ spaced (member_words (take l.member-index l.members))

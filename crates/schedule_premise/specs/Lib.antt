@@ -1,3 +1,0 @@
-pub mod Premise
-pub mod Sound
-pub mod Text

@@ -1,9 +1,0 @@
-use Rattle.std.proofs.Common.{◌≡◌, ◌≤◌, ◌^◌, map, drop}
-use Rattle.schedule_words.specs.Words.{members_from, members_of}
-use Rattle.schedule_words.proofs.Ascending.{front_onto}
-use Rattle.schedule_words.proofs.lists.members.Given as goal
-
-abbrev pub invariant-loop-word : goal.invariant-loop-word
-invariant-loop-word l =
-    (1 ≤ l.low) × (l.low ≤ 2 ^ 32)
-    × (front_onto l.members.items (members_from l.low l.peers (drop l.word-index (map (λ word. word.now) l.words))) ≡ members_of l.peers (map (λ word. word.now) l.words))

@@ -1,0 +1,10 @@
+pub mod Scripts
+pub mod ClusterReading
+pub mod Keywords
+pub mod Refusals
+pub mod Events
+pub mod Progress
+pub mod Spelling
+pub mod RootReading
+pub mod RootInput
+pub mod Endings

@@ -1,9 +1,0 @@
-pub mod Indexed
-pub mod KeepsWhole
-pub mod Resting
-pub mod WholeTicks
-pub mod Completing
-pub mod Gathering
-pub mod CallStarts
-pub mod OtherKeys
-pub mod TickMessages

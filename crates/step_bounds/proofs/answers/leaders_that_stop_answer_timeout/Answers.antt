@@ -1,5 +1,0 @@
-use Rattle.step_bounds.proofs.Answered.{stopped_times_out}
-use Rattle.step_bounds.proofs.answers.leaders_that_stop_answer_timeout.Goals as goal
-
-pub returns : goal.returns
-returns c = stopped_times_out

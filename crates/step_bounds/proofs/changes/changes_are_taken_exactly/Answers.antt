@@ -1,5 +1,0 @@
-use Rattle.step_bounds.proofs.Taken.{taken_exactly}
-use Rattle.step_bounds.proofs.changes.changes_are_taken_exactly.Goals as goal
-
-pub returns : goal.returns
-returns c = taken_exactly

@@ -1,5 +1,0 @@
-use Rattle.step_bounds.proofs.Bounds.{none_left}
-use Rattle.step_bounds.proofs.laws.no_task_is_left.Goals as goal
-
-pub returns : goal.returns
-returns c = none_left

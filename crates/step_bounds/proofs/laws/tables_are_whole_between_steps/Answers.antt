@@ -1,5 +1,0 @@
-use Rattle.step_bounds.proofs.Bounds.{reached_whole}
-use Rattle.step_bounds.proofs.laws.tables_are_whole_between_steps.Goals as goal
-
-pub returns : goal.returns
-returns c = reached_whole

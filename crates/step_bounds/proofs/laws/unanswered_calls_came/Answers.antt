@@ -1,5 +1,0 @@
-use Rattle.step_bounds.proofs.Bounds.{reached_few}
-use Rattle.step_bounds.proofs.laws.unanswered_calls_came.Goals as goal
-
-pub returns : goal.returns
-returns c = reached_few

@@ -1,0 +1,6 @@
+pub mod ObjectLaws
+pub mod ObjectFaults
+pub mod FactLaws
+pub mod FactFaults
+pub mod SavedLaws
+pub mod SavedFaults

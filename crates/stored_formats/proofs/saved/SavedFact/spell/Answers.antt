@@ -1,0 +1,10 @@
+use Rattle.std.proofs.Common.{refl}
+use Rattle.fields.proofs.ByteLaws.{Writes-whole}
+use Rattle.stored_formats.proofs.SavedLaws.{saved_again}
+use Rattle.stored_formats.proofs.saved.SavedFact.spell.Goals as goal
+
+pub returns-clause-prefix : goal.returns-clause-prefix
+returns-clause-prefix c = Writes-whole _ _ _ _ c.write_saved.ensures.written
+
+pub returns-clause-again : goal.returns-clause-again
+returns-clause-again c = saved_again _ c.args.self.now c.write_saved.ensures.valid refl

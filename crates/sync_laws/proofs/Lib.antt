@@ -1,3 +1,0 @@
-pub mod Coverage
-pub mod Peers
-pub mod Gives

@@ -1,4 +1,0 @@
-pub mod Seen
-pub mod Syncs
-pub mod Laws
-pub mod RequestRefinement

@@ -1,5 +1,0 @@
-use Rattle.sync_rule.proofs.Same.{kept_exactly}
-use Rattle.sync_rule.proofs.laws.a_tree_is_kept_if_nothing_changes.Goals as goal
-
-pub returns : goal.returns
-returns c = kept_exactly

@@ -1,6 +1,0 @@
-use Rattle.std.proofs.Common.{◌≡◌, take}
-use Rattle.sync_rule.specs.Merges.{with_entries}
-use Rattle.sync_rule.proofs.merging.Merge.add_all.Given as goal
-
-abbrev pub invariant-loop-entry : goal.invariant-loop-entry
-invariant-loop-entry l = l.self ≡ with_entries l.initial.self (take l.entry-index l.entries)

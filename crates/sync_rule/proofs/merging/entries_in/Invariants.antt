@@ -1,6 +1,0 @@
-use Rattle.std.proofs.Common.{◌≡◌}
-use Rattle.sync_rule.specs.Ranks.{entries_of, HaveKeys}
-use Rattle.sync_rule.proofs.merging.entries_in.Given as goal
-
-abbrev pub invariant-loop-key : goal.invariant-loop-key
-invariant-loop-key l = record { entries : l.entries.items ≡ entries_of l.yielded; keys : HaveKeys l.entries.items }

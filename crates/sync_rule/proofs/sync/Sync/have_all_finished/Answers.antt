@@ -1,6 +1,0 @@
-use Rattle.std.proofs.Common.{rules}
-use Rattle.joint_views.proofs.Memberships.{all_is}
-use Rattle.sync_rule.proofs.sync.Sync.have_all_finished.Goals as goal
-
-pub returns : goal.returns
-returns c = all_is _ c.args.self.now.view _ (search rules)

@@ -1,7 +1,0 @@
-use Rattle.std.proofs.Common.{◌≡◌, ◌++◌, take}
-use Rattle.std.specs.List.{flat_map}
-use Rattle.sync_rule.specs.Merges.{merged}
-use Rattle.sync_rule.proofs.sync.Sync.merged.Given as goal
-
-abbrev pub invariant-loop-source : goal.invariant-loop-source
-invariant-loop-source l = l.merge ≡ merged (l.self.scan.entries ++ flat_map (λ s. s.entries) (take l.source-index l.source-items))

@@ -1,5 +1,0 @@
-pub mod Merges
-pub mod Ranks
-pub mod Sources
-pub mod Syncs
-pub mod PeerFact

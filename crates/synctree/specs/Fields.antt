@@ -1,0 +1,3 @@
+-- What the crates above name of fields, passed on.
+pub use Rattle.fields.specs.Entries.{IsEntry}
+pub use Rattle.fields.specs.Numbers.{byte_at}

@@ -1,0 +1,12 @@
+pub mod Ascending
+pub mod Contents
+pub mod RuleKeeping
+pub mod Same
+pub mod Sources
+pub mod Telling
+pub mod InTree
+pub mod Keeping
+pub mod Messages
+pub mod Others
+pub mod Places
+pub mod Walking

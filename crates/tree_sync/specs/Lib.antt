@@ -1,0 +1,10 @@
+pub mod Merges
+pub mod Ranks
+pub mod Sources
+pub mod Syncs
+pub mod Asks
+pub mod Rows
+pub mod Running
+pub mod Sends
+pub mod StoredFormats
+pub mod TreeExchange

@@ -1,4 +1,0 @@
-pub mod Counting
-pub mod Following
-pub mod Coming
-pub mod TurnLaws

@@ -1,0 +1,2 @@
+-- What the crates above name of peer_refinement, passed on.
+pub use Rattle.peer_refinement.specs.Trees.{AreFree}
