@@ -1,5 +1,5 @@
 -- What a recorder makes of the lines of a script.
-use Rattle.std.proofs.Common.{◌≡◌, ◌+◌, ◌∙◌, ℕ, List, [], ◌∷◌, ◌++◌, length, take, drop, Option, Result, Ok, Err, refl, sym, ap, subst, append_assoc, append-nil}
+use Rattle.std.proofs.Common.{◌≡◌, ◌+◌, ◌∙◌, ℕ, List, [], ◌∷◌, ◌++◌, length, take, drop, Option, Result, Ok, Err, refl, sym, ap, subst, append_assoc, append-nil, inl, inr, ◌⊎◌}
 use Rattle.std.proofs.lemmas.List.{nil_from_length}
 use Rattle.std.specs.Prelude.{IsErrAnd}
 use Rattle.std.specs.Vec.Iter.{into_iter_items, into_iter_len}
@@ -15,7 +15,7 @@ use Rattle.cluster.specs.Recordings.{Follows, IsPart, Recording, heard_all, reco
 use Rattle.world_model.specs.WorldSpec.{Account}
 use Rattle.network.specs.Mail.{Mail}
 use Rattle.schedule_text.specs.declared.event.ScheduleEvent.{ScheduleEvent}
-use Rattle.cluster.specs.Ends.{Looked, Went, opening}
+use Rattle.cluster.specs.Ends.{Looked, LookedUntil, Went, WentUntil, opening}
 use Rattle.cluster.specs.Recorders.{FollowsOn, Hears, IsInStep, Reached, Records, RecordsAll, StopsAt, mail_in}
 use Rattle.cluster.specs.declared.recorder.Recorder.{Recorder}
 use Rattle.cluster.specs.declared.stop.Stop.{Stop}
@@ -46,7 +46,15 @@ module _ {L : Type 0} (sent : L → Option (List (ℕ × List ℕ))) (given : L 
       subst (λ (l : List (Option (List ℕ))). At l (recorded event r) c b now) (sym (append-nil looks)) records.0,
       (b, records.1, refl),
     )
-    follows_event event (Err e) c b now stop = (Event event ∷ [], [], recorded event r, (refl, tt), (refl, refl), subst (λ (l : List (Option (List ℕ))). StopsAt sent given faults w first a l (recorded event r) e b now) (sym (append-nil looks)) stop)
+    follows_event event (Err e) c b now stop = (
+      Event event ∷ [],
+      [],
+      recorded event r,
+      (refl, tt),
+      (refl, refl),
+      subst (λ (l : List (Option (List ℕ))). StopsAt sent given faults w first a l (recorded event r) e b now) (sym (append-nil looks)) stop.0,
+      inr (refl, stop.1),
+    )
 
     -- a turn was followed
     follows_turn : (count : ℕ) (result : Result (Unit {0}) Stop) (c : Recorder) (b : L) (now : Account) → Hears sent given faults w first a count looks r link result c b now → FollowsOn sent given faults w first a (Turn count ∷ []) looks r link result c b now
@@ -57,7 +65,15 @@ module _ {L : Type 0} (sent : L → Option (List (ℕ × List ℕ))) (given : L 
       heard.2,
       (b, subst (λ (l : List (Option (List ℕ))). Looked sent given l r link b) (sym (all_looks count heard.0 heard.1)) heard.3, refl),
     )
-    follows_turn count (Err e) c b now heard = (Turn (length heard.0) ∷ [], heard.0, heard_all heard.0 r, heard.1, turn_alone (length heard.0) heard.0 r refl, heard.2)
+    follows_turn count (Err e) c b now heard = (
+      Turn (length heard.0) ∷ [],
+      heard.0,
+      heard_all heard.0 r,
+      heard.1,
+      turn_alone (length heard.0) heard.0 r refl,
+      heard.2,
+      inr (refl, subst (λ (l : List (Option (List ℕ))). LookedUntil sent given l r link b) (sym (all_looks (length heard.0) heard.0 refl)) heard.3),
+    )
 
     pub event_follows : (line : ScriptLine) (event : ScheduleEvent) → line ≡ Event event → (result : Result (Unit {0}) Stop) (c : Recorder) (b : L) (now : Account) → Records sent given faults w first a looks r event link result c b now
         → FollowsOn sent given faults w first a (line ∷ []) looks r link result c b now
@@ -69,6 +85,7 @@ module _ {L : Type 0} (sent : L → Option (List (ℕ × List ℕ))) (given : L 
   -- what is done with the link for these lines and looks is what is done for those, behind these
   pub record Carries (done : List ScriptLine) (looks : List (Option (List ℕ))) (q r : Recording) (x y : L) : Type 0 where
     on : (part : List ScriptLine) (more : List (Option (List ℕ))) (z : L) → Went sent given part more r y z → Went sent given (done ++ part) (looks ++ more) q x z
+    until : (part : List ScriptLine) (more : List (Option (List ℕ))) (z : L) → WentUntil sent given part more r y z → WentUntil sent given (done ++ part) (looks ++ more) q x z
 
   carries_line : (line : ScriptLine) (more : List (Option (List ℕ))) (r s : Recording) (x y : L) → Follows (line ∷ []) more r s → Went sent given (line ∷ []) more r x y → Carries (line ∷ []) more r s x y
   carries_line (Event event) more r s x y follows went = record {
@@ -78,10 +95,17 @@ module _ {L : Type 0} (sent : L → Option (List (ℕ × List ℕ))) (given : L 
       subst (λ (l : List (Option (List ℕ))). Went sent given part (l ++ extra) (recorded event r) went.0 z) (sym follows.0)
           (subst (λ (q : Recording). Went sent given part extra q went.0 z) follows.1 (subst (λ (m : L). Went sent given part extra s m z) went.2 goes)),
     );
+    until = λ part extra z goes.
+        inl (
+          went.0,
+          went.1,
+          subst (λ (l : List (Option (List ℕ))). WentUntil sent given part (l ++ extra) (recorded event r) went.0 z) (sym follows.0)
+              (subst (λ (q : Recording). WentUntil sent given part extra q went.0 z) follows.1 (subst (λ (m : L). WentUntil sent given part extra s m z) went.2 goes)),
+        );
   }
   carries_line (Turn count) more r s x y follows went =
       let many : length more ≡ count = few_looks count more follows.0 follows.1.0 in
-      record { on = λ part extra z goes. turn_on count more extra part r s x y z many follows.1.1 went goes }
+      record { on = λ part extra z goes. turn_on count more extra part r s x y z many follows.1.1 went goes; until = λ part extra z goes. turn_until count more extra part r s x y z many follows.1.1 went goes }
     where
       turn_on : (count : ℕ) (more extra : List (Option (List ℕ))) (part : List ScriptLine) (r s : Recording) (x y z : L) → length more ≡ count → s ≡ heard_all (take count more) r → Went sent given (Turn count ∷ []) more r x y → Went sent given part extra s y z
           → Went sent given (Turn count ∷ part) (more ++ extra) r x z
@@ -94,11 +118,26 @@ module _ {L : Type 0} (sent : L → Option (List (ℕ × List ℕ))) (given : L 
                 (subst (λ (q : Recording). Went sent given part extra q went.0 z) (is ∙ ap (λ (l : List (Option (List ℕ))). heard_all l r) prefix) (subst (λ (m : L). Went sent given part extra s m z) went.2 goes)),
           )
 
+      turn_until : (count : ℕ) (more extra : List (Option (List ℕ))) (part : List ScriptLine) (r s : Recording) (x y z : L) → length more ≡ count → s ≡ heard_all (take count more) r → Went sent given (Turn count ∷ []) more r x y → WentUntil sent given part extra s y z
+          → WentUntil sent given (Turn count ∷ part) (more ++ extra) r x z
+      turn_until count more extra part r s x y z many is went goes =
+          let prefix : take count more ≡ take count (more ++ extra) = all_looks count more many ∙ sym (ap (λ (n : ℕ). take n (more ++ extra)) (sym many) ∙ take_prefix more extra) in
+          let rest : extra ≡ drop count (more ++ extra) = sym (ap (λ (n : ℕ). drop n (more ++ extra)) (sym many) ∙ drop_prefix more extra) in
+          inl (
+            went.0,
+            subst (λ (l : List (Option (List ℕ))). Looked sent given l r x went.0) prefix went.1,
+            subst (λ (l : List (Option (List ℕ))). WentUntil sent given part l (heard_all (take count (more ++ extra)) r) went.0 z) rest
+                (subst (λ (q : Recording). WentUntil sent given part extra q went.0 z) (is ∙ ap (λ (l : List (Option (List ℕ))). heard_all l r) prefix) (subst (λ (m : L). WentUntil sent given part extra s m z) went.2 goes)),
+          )
+
   carries_on : (done lines : List ScriptLine) (looks more : List (Option (List ℕ))) (q r s : Recording) (x y z : L) → Carries done looks q r x y → Carries lines more r s y z → Carries (done ++ lines) (looks ++ more) q s x z
   carries_on done lines looks more q r s x y z one two = record {
     on = λ part extra end goes.
         subst (λ (l : List ScriptLine). Went sent given l ((looks ++ more) ++ extra) q x end) (sym (append_assoc done lines part))
         (subst (λ (l : List (Option (List ℕ))). Went sent given (done ++ (lines ++ part)) l q x end) (sym (append_assoc looks more extra)) (one.on (lines ++ part) (more ++ extra) end (two.on part extra end goes)));
+    until = λ part extra end goes.
+        subst (λ (l : List ScriptLine). WentUntil sent given l ((looks ++ more) ++ extra) q x end) (sym (append_assoc done lines part))
+        (subst (λ (l : List (Option (List ℕ))). WentUntil sent given (done ++ (lines ++ part)) l q x end) (sym (append_assoc looks more extra)) (one.until (lines ++ part) (more ++ extra) end (two.until part extra end goes)));
   }
 
   -- the lines so far were followed, and these are left
@@ -113,7 +152,7 @@ module _ {L : Type 0} (sent : L → Option (List (ℕ × List ℕ))) (given : L 
     pub over : Carries done looks (opening w) r a b
 
   pub begun : (script left : List ScriptLine) (c : Recorder) (now : Account) → left ≡ script → AllMayBeLines w.peers script → At [] (opening w) c a now → Underway script left c a now
-  begun script left c now same may reached = record { done = []; all = sym same; may = subst (AllMayBeLines w.peers) (sym same) may; looks = []; r = opening w; leads = leads_none (opening w); reached = reached; over = record { on = λ part more z goes. goes } }
+  begun script left c now same may reached = record { done = []; all = sym same; may = subst (AllMayBeLines w.peers) (sym same) may; looks = []; r = opening w; leads = leads_none (opening w); reached = reached; over = record { on = λ part more z goes. goes; until = λ part more z goes. goes } }
 
   pub next_may : (script left : List ScriptLine) (line : ScriptLine) (rest : List ScriptLine) (c : Recorder) (b : L) (now : Account) → left ≡ line ∷ rest → Underway script left c b now → MayBeLine w.peers line
   next_may script left line rest c b now same under = (subst (AllMayBeLines w.peers) same under.may).0
@@ -153,6 +192,7 @@ module _ {L : Type 0} (sent : L → Option (List (ℕ × List ℕ))) (given : L 
         subst (IsPart (under.done ++ next.0)) (sym whole) (part_after under.done next.0 (line ∷ rest) (part_of_first next.0 line rest next.3)),
         under.leads.on next.0 next.1 next.2 next.4,
         next.5,
+        under.over.until next.0 next.1 b next.6,
       )
 
   -- no line is left

@@ -1,5 +1,5 @@
 -- What a recorder makes of its looks.
-use Rattle.std.proofs.Common.{◌≡◌, ◌≤◌, ◌<◌, ◌+◌, ◌-◌, ◌∙◌, ℕ, Bool, true, false, List, [], ◌∷◌, ◌++◌, length, drop, Option, None, Some, Vec, Result, Ok, Err, refl, sym, ap, subst, arith, append_assoc, append-nil, length-append, slice_get}
+use Rattle.std.proofs.Common.{◌≡◌, ◌≤◌, ◌<◌, ◌+◌, ◌-◌, ◌∙◌, ℕ, Bool, true, false, List, [], ◌∷◌, ◌++◌, length, drop, Option, None, Some, Vec, Result, Ok, Err, refl, sym, ap, subst, arith, append_assoc, append-nil, length-append, slice_get, inl, inr}
 use Rattle.std.specs.Prelude.{IsErrAnd, if◌then◌else◌, map}
 use Rattle.std.specs.Option.{option_map}
 use Rattle.std.specs.declared.alloc.Global.{Global}
@@ -27,7 +27,7 @@ use Rattle.schedule_text.specs.declared.event.ScheduleEvent.TheVariants.{Deliver
 use Rattle.peer_turns.proofs.Following.{grew_more}
 use Rattle.peer_turns.specs.Going.{Grew}
 use Rattle.wire_frames.specs.declared.frame.Frame.{Frame}
-use Rattle.cluster.specs.Ends.{Handed, Looked, frames_between}
+use Rattle.cluster.specs.Ends.{Handed, HandedPrefix, Looked, LookedUntil, frames_between}
 use Rattle.cluster.specs.Recorders.{Hears, IsInStep, Reached, Records, StopsAt, mail_in}
 use Rattle.cluster.specs.declared.recorder.Recorder.{Recorder}
 use Rattle.cluster.specs.declared.stop.Stop.{Stop}
@@ -173,12 +173,24 @@ module _ {L : Type 0} (sent : L → Option (List (ℕ × List ℕ))) (given : L 
   pub looked_once : (link b : L) (o : Option (Vec ℕ Global)) → Looks (given link) (given b) (Ok o) → StaysTold (sent link) (sent b) → Handed sent given (bytes_of o ∷ []) [] link b
   looked_once link b o gave stays = record { looked = told_looks (given link) (given b) o gave; sends = stays_grew (sent link) (sent b) stays }
 
+  -- the look failed, and neither gave nor sent anything
+  pub looked_none : (link b : L) (e : LinkError) → Looks (given link) (given b) (Err e) → StaysTold (sent link) (sent b) → Handed sent given [] [] link b
+  looked_none link b e gave stays = record { looked = kept_looks (given link) (given b) e gave; sends = stays_grew (sent link) (sent b) stays }
+
   -- and then these messages were
   joined : (look : Option (List ℕ)) (frames : List (ℕ × List ℕ)) (x y z : L) → Handed sent given (look ∷ []) [] x y → Handed sent given [] frames y z → Handed sent given (look ∷ []) frames x z
   joined look frames x y z one then_sent = record {
     looked = grew_more (given x) (given y) (given z) (look ∷ []) [] one.looked then_sent.looked;
     sends = grew_more (sent x) (sent y) (sent z) [] frames one.sends then_sent.sends;
   }
+
+  -- and then a prefix of these
+  joined_prefix : (look : Option (List ℕ)) (frames : List (ℕ × List ℕ)) (x y z : L) → Handed sent given (look ∷ []) [] x y → HandedPrefix sent given [] frames y z → HandedPrefix sent given (look ∷ []) frames x z
+  joined_prefix look frames x y z one prefix = (prefix.0, prefix.1, prefix.2, joined look prefix.0 x y z one prefix.3)
+
+  looked_until : (xs ys : List (Option (List ℕ))) (q : Recording) (x y z : L) → Looked sent given xs q x y → LookedUntil sent given ys (heard_all xs q) y z → LookedUntil sent given (xs ++ ys) q x z
+  looked_until [] ys q x y z one more = subst (λ (l : L). LookedUntil sent given ys q l z) one more
+  looked_until (look ∷ xs) ys q x y z one more = inl (one.0, one.1, looked_until xs ys (heard look q) one.0 y z one.2 more)
 
   looked_more : (xs ys : List (Option (List ℕ))) (q : Recording) (x y z : L) → Looked sent given xs q x y → Looked sent given ys (heard_all xs q) y z → Looked sent given (xs ++ ys) q x z
   looked_more [] ys q x y z one more = subst (λ (l : L). Looked sent given ys q l z) one more
@@ -190,12 +202,13 @@ module _ {L : Type 0} (sent : L → Option (List (ℕ × List ℕ))) (given : L 
   HearsOnce = Hears sent given faults w first a 1 looks r
 
   -- the look itself failed
-  pub hears_failed : (link : L) (c : Recorder) (b : L) (now : Account) (e : Stop) → StopsAt sent given faults w first a looks r e b now → HearsOnce link (Err e) c b now
-  hears_failed link c b now e stop = ([], omega arith, subst (λ (l : List (Option (List ℕ))). StopsAt sent given faults w first a l r e b now) (sym (append-nil looks)) stop)
+  hears_failed : (link : L) (c : Recorder) (b : L) (now : Account) (e : Stop) → StopsAt sent given faults w first a looks r e b now → Handed sent given [] [] link b → HearsOnce link (Err e) c b now
+  hears_failed link c b now e stop none = ([], omega arith, subst (λ (l : List (Option (List ℕ))). StopsAt sent given faults w first a l r e b now) (sym (append-nil looks)) stop, none)
 
-  pub hears_err : (link : L) (result : Result (Unit {0}) Stop) (G : Stop → Type 0) (e : Stop) (c : Recorder) (b : L) (now : Account) → IsErrAnd result G → ((d : Stop) → G d → d ≡ e) → StopsAt sent given faults w first a looks r e b now → HearsOnce link result c b now
-  hears_err link (Ok x) G e c b now and same stop = absurd and
-  hears_err link (Err d) G e c b now and same stop = hears_failed link c b now d (subst (λ (x : Stop). StopsAt sent given faults w first a looks r x b now) (sym (same d and)) stop)
+  pub hears_err : (link : L) (result : Result (Unit {0}) Stop) (G : Stop → Type 0) (e : Stop) (c : Recorder) (b : L) (now : Account) → IsErrAnd result G → ((d : Stop) → G d → d ≡ e) → StopsAt sent given faults w first a looks r e b now → Handed sent given [] [] link b
+      → HearsOnce link result c b now
+  hears_err link (Ok x) G e c b now and same stop none = absurd and
+  hears_err link (Err d) G e c b now and same stop none = hears_failed link c b now d (subst (λ (x : Stop). StopsAt sent given faults w first a looks r x b now) (sym (same d and)) stop) none
 
   -- nothing was recorded for the look
   pub hears_nothing : (link : L) (look : Option (List ℕ)) (c : Recorder) (b : L) (now : Account) → found look r.run ≡ None → At (looks ++ look ∷ []) r c b now → Handed sent given (look ∷ []) [] link b → HearsOnce link (Ok tt) c b now
@@ -220,7 +233,13 @@ module _ {L : Type 0} (sent : L → Option (List (ℕ × List ℕ))) (given : L 
         (b, subst (λ (s : Recording). Handed sent given (look ∷ []) (frames_between r s) link b) same handed, refl),
       )
   hears_message link after look n number (Err e) c b now some is one stop =
-      (look ∷ [], omega arith, subst (λ (s : Recording). StopsAt sent given faults w first a (looks ++ look ∷ []) s e b now) (sym (heard_number look r n number some is)) stop)
+      let same : recorded (Deliver number) r ≡ heard look r = sym (heard_number look r n number some is) in
+      let prefix : HandedPrefix sent given (look ∷ []) (frames_between r (recorded (Deliver number) r)) link b = joined_prefix look (frames_between r (recorded (Deliver number) r)) link after b one stop.1 in (
+        look ∷ [],
+        omega arith,
+        subst (λ (s : Recording). StopsAt sent given faults w first a (looks ++ look ∷ []) s e b now) same stop.0,
+        inr (refl, subst (λ (s : Recording). HandedPrefix sent given (look ∷ []) (frames_between r s) link b) same prefix),
+      )
 
   -- ---- several looks
 
@@ -259,4 +278,5 @@ module _ {L : Type 0} (sent : L → Option (List (ℕ × List ℕ))) (given : L 
         omega (arith, length-append heard.0 next.0, heard.1, next.1, below),
         subst (λ (l : List (Option (List ℕ))). StopsAt sent given faults w first a l (heard_all (heard.0 ++ next.0) r) e b now) (append_assoc looks heard.0 next.0)
             (subst (λ (s : Recording). StopsAt sent given faults w first a ((looks ++ heard.0) ++ next.0) s e b now) (sym (heard_more heard.0 next.0 r)) next.2),
+        looked_until heard.0 next.0 r start link b heard.3 next.3,
       )

@@ -1,5 +1,5 @@
 -- How a run that was recorded, or that stopped, makes a cluster end.
-use Rattle.std.proofs.Common.{◌≡◌, ◌⊎◌, ◌≢◌, ◌≤◌, ◌+◌, ◌∙◌, ℕ, List, [], ◌∷◌, ◌++◌, length, codes, Option, None, Some, Result, Ok, Err, refl, sym, ap, subst, inl, inr, arith, append-nil}
+use Rattle.std.proofs.Common.{◌≡◌, ◌⊎◌, ◌≢◌, ◌≤◌, ◌+◌, ◌∙◌, ℕ, List, [], ◌∷◌, ◌++◌, length, codes, take, drop, Option, None, Some, Result, Ok, Err, refl, sym, ap, subst, inl, inr, arith, append-nil}
 use Rattle.std.specs.Prelude.{IfSome, OnErr}
 use Rattle.std.specs.Io.KnownBytes.{IsAtEnd}
 use Rattle.ens_base.specs.Causes.{Rose}
@@ -11,12 +11,13 @@ use Rattle.environment.specs.declared.errors.LinkError.{LinkError}
 use Rattle.environment.specs.declared.errors.LinkError.TheVariants as links
 use Rattle.scripts.specs.Scripts.{IsScript, ended, next_line, script_of}
 use Rattle.scripts.specs.declared.line.ScriptLine.{ScriptLine}
+use Rattle.scripts.specs.declared.line.ScriptLine.TheVariants.{Event, Turn}
 use Rattle.scripts.specs.declared.cluster_read.ReadError.{ReadError}
 use Rattle.scripts.specs.declared.cluster_read.ReadError.TheVariants as read
 use Rattle.cluster.proofs.Following.{part_whole}
 use Rattle.cluster.proofs.Schedules.{recorded_is, recorded_sound}
 use Rattle.cluster.specs.Messages.{AllRecorded}
-use Rattle.cluster.specs.Recordings.{Follows, IsPart, Recording, frames_of}
+use Rattle.cluster.specs.Recordings.{Follows, IsPart, Recording, frames_of, heard_all, recorded}
 use Rattle.world_model.specs.WorldSpec.{Account, HasHashed, HasNoClash, IsWithinMessages, Run}
 use Rattle.schedule_input.specs.Counting.{WasCutOff, WasTakenTo}
 use Rattle.schedule_input.proofs.Counting.{taken_none}
@@ -35,13 +36,23 @@ use Rattle.world_model.specs.Worlds.{run_of}
 use Rattle.world_model.specs.declared.error.WorldError.{WorldError}
 use Rattle.world_model.specs.declared.error.WorldError.TheVariants as worlds
 use Rattle.cluster.specs.Endings.{IsStopText, IsUnread}
-use Rattle.cluster.specs.Ends.{BrokenOff, CameThere, Ends, Handed, HasRead, IsCluster, Recorded, ReplaysAs, RunEnds, Stopped, frames_before, opening, recorded_schedule}
+use Rattle.cluster.specs.Ends.{BrokenOff, CameThere, Ends, Handed, HasRead, IsCluster, Recorded, ReplaysAs, RunEnds, Stopped, Went, WentUntil, frames_before, opening, recorded_schedule}
 use Rattle.cluster.specs.Recorders.{IsOpened, IsUnopened, Reached, RecordsAll, StopsAt, StopsInLink, StopsInWorld}
 use Rattle.cluster.specs.declared.recorder.Recorder.{Recorder}
 use Rattle.cluster.specs.declared.stop.Stop.{Stop}
 use Rattle.cluster.specs.declared.stop.Stop.TheVariants.{Lines, World as OfWorld, Link as OfLink}
 
 module _ {L : Type 0} (sent : L → Option (List (ℕ × List ℕ))) (given : L → Option (List (Option (List ℕ)))) (faults : L → ℕ) (w : ClusterWords) (first : Account) (a : L) where
+  -- nothing was handed over, and no look was made
+  stayed : (x y : L) → y ≡ x → Handed sent given [] [] x y
+  stayed x y same = subst (λ (z : L). Handed sent given [] [] x z) (sym same) (record { looked = grew_none (given x); sends = grew_none (sent x) })
+
+  -- a run that came to its end was stopped behind its last line
+  went_until : (lines : List ScriptLine) (looks : List (Option (List ℕ))) (r : Recording) (x y : L) → Went sent given lines looks r x y → WentUntil sent given lines looks r x y
+  went_until [] looks r x y went = stayed x y went
+  went_until (Event event ∷ more) looks r x y went = inl (went.0, went.1, went_until more looks (recorded event r) went.0 y went.2)
+  went_until (Turn count ∷ more) looks r x y went = inl (went.0, went.1, went_until more (drop count looks) (heard_all (take count looks) r) went.0 y went.2)
+
   -- the peers started
   pub opened_reached : (c : Recorder) (now : Account) → IsOpened w c first now → Reached sent given faults w first a [] (opening w) c a now
   opened_reached c now opened = record {
@@ -63,6 +74,7 @@ module _ {L : Type 0} (sent : L → Option (List (ℕ × List ℕ))) (given : L 
     tt,
     (refl, refl),
     record { stops = refused; stand = tt; few = omega arith; came = inl refl; handed = record { looked = grew_none (given a); sends = grew_none (sent a) } },
+    stayed a a refl,
   )
   unopened script (OfLink e) now refused = absurd refused
 
@@ -117,17 +129,18 @@ module _ {L : Type 0} (sent : L → Option (List (ℕ × List ℕ))) (given : L 
         all = sym (append-nil (frames_of r.run));
         most = all.1.3.grown;
         handed = all.1.3.handed;
+        went = went_until script all.1.0 (opening w) a b all.1.4;
       }
 
     -- ---- it was stopped
 
-    module _ (part : List ScriptLine) (looks : List (Option (List ℕ))) (r : Recording) (is_part : IsPart part script) (follows : Follows part looks (opening w) r) where
+    module _ (part : List ScriptLine) (looks : List (Option (List ℕ))) (r : Recording) (is_part : IsPart part script) (follows : Follows part looks (opening w) r) (went : WentUntil sent given part looks (opening w) a b) where
       abbrev stopped_schedule : Schedule
       stopped_schedule = recorded_schedule w r
 
       -- the world stopped it
       stopped_there : CameThere first w r → Handed sent given looks (frames_before w r) a b → Stopped sent given first w script r a b
-      stopped_there came handed = record { part = part; is_part = is_part; looks = looks; follows = follows; came = came; handed = handed }
+      stopped_there came handed = record { part = part; is_part = is_part; looks = looks; follows = follows; came = came; handed = handed; went = went }
 
       module _ (stand : AllRecorded w.peers r.events) (few : length r.events + 3 ≤ 200000) where
         valid_then : IsSchedule stopped_schedule
@@ -174,6 +187,7 @@ module _ {L : Type 0} (sent : L → Option (List (ℕ × List ℕ))) (given : L 
         all = stop.all;
         most = stop.most;
         handed = stop.handed;
+        went = went;
       }
 
       stop_then : (e : Stop) (status : Status) (text : List ℕ) → StopsAt sent given faults w first a looks r e b now → IsStopText e status text → RunEnds sent given faults first now w script a b status text
@@ -191,12 +205,12 @@ module _ {L : Type 0} (sent : L → Option (List (ℕ × List ℕ))) (given : L 
       memory_then (OfLink e) stop = inl (broken_off e stop)
 
     pub stop_ends : (e : Stop) (status : Status) (text : List ℕ) → RecordsAll sent given faults w first a script (Err e) b now → IsStopText e status text → RunEnds sent given faults first now w script a b status text
-    stop_ends e status text all is_text = stop_then all.0 all.1 all.2 all.3 all.4 e status text all.5 is_text
+    stop_ends e status text all is_text = stop_then all.0 all.1 all.2 all.3 all.4 all.6 e status text all.5 is_text
 
     -- memory ran out, at any point of it
     pub memory_ends : (result : Result Recorder Stop) (text : List ℕ) → RecordsAll sent given faults w first a script result b now → text ≡ codes "memory" ++ 10 ∷ [] → RunEnds sent given faults first now w script a b Status.Memory text
     memory_ends (Ok c) text all is_text = (inl (done_broken c all), is_text)
-    memory_ends (Err e) text all is_text = (memory_then all.0 all.1 all.2 all.3 all.4 e all.5, is_text)
+    memory_ends (Err e) text all is_text = (memory_then all.0 all.1 all.2 all.3 all.4 all.6 e all.5, is_text)
 
   -- ---- the whole job
 

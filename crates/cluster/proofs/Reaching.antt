@@ -15,14 +15,14 @@ use Rattle.replay.specs.Stops.{run_after}
 use Rattle.replay.specs.Worlds.{schedule_run}
 use Rattle.schedule_text.specs.declared.event.ScheduleEvent.{ScheduleEvent}
 use Rattle.schedule_text.specs.declared.schedule.Schedule.{Schedule}
-use Rattle.peer_turns.proofs.Following.{grew_more}
+use Rattle.peer_turns.proofs.Following.{grew_more, grew_none}
 use Rattle.peer_turns.specs.Going.{Grew}
 use Rattle.wire_frames.specs.declared.frame.Frame.{Frame}
 use Rattle.world_model.specs.Turns.{StopsAmong, turn, turns_of}
 use Rattle.world_model.specs.Worlds.{run_of}
 use Rattle.world_model.specs.declared.error.WorldError.{WorldError}
 use Rattle.world_model.specs.declared.world.World.{World}
-use Rattle.cluster.specs.Ends.{CameThere, Handed, frames_before, frames_between, recorded_schedule, run_before, without_last}
+use Rattle.cluster.specs.Ends.{CameThere, Handed, HandedPrefix, frames_before, frames_between, recorded_schedule, run_before, without_last}
 use Rattle.cluster.specs.Recorders.{IsInStep, Reached, Records, StopsAt, mail_in}
 use Rattle.cluster.specs.Sending.{HandedAll, HandedSome}
 use Rattle.cluster.specs.declared.recorder.Recorder.{Recorder}
@@ -45,11 +45,15 @@ at_prefix (y ∷ xs) x = at_prefix xs x
 
 module _ {L : Type 0} (sent : L → Option (List (ℕ × List ℕ))) (given : L → Option (List (Option (List ℕ)))) (faults : L → ℕ)
     (w : ClusterWords) (first : Account) (a : L) where
+  -- nothing was handed over yet
+  pub nothing_yet : (frames : List (ℕ × List ℕ)) (x : L) → HandedPrefix sent given [] frames x x
+  nothing_yet frames x = ([], frames, refl, record { looked = grew_none (given x); sends = grew_none (sent x) })
+
   -- an error was passed on
   pub records_err : (looks : List (Option (List ℕ))) (r : Recording) (event : ScheduleEvent) (link : L) (result : Result (Unit {0}) Stop) (G : Stop → Type 0) (e : Stop) (c : Recorder) (b : L) (now : Account) → IsErrAnd result G → ((d : Stop) → G d → d ≡ e)
-      → StopsAt sent given faults w first a looks (recorded event r) e b now → Records sent given faults w first a looks r event link result c b now
-  records_err looks r event link (Ok x) G e c b now and same stop = absurd and
-  records_err looks r event link (Err d) G e c b now and same stop = subst (λ (x : Stop). StopsAt sent given faults w first a looks (recorded event r) x b now) (sym (same d and)) stop
+      → StopsAt sent given faults w first a looks (recorded event r) e b now → HandedPrefix sent given [] (frames_between r (recorded event r)) link b → Records sent given faults w first a looks r event link result c b now
+  records_err looks r event link (Ok x) G e c b now and same stop prefix = absurd and
+  records_err looks r event link (Err d) G e c b now and same stop prefix = (subst (λ (x : Stop). StopsAt sent given faults w first a looks (recorded event r) x b now) (sym (same d and)) stop, prefix)
 
   module _ (looks : List (Option (List ℕ))) (r : Recording) (c : Recorder) (link : L) (mid : Account) (reached : Reached sent given faults w first a looks r c link mid) where
     run_is : schedule_run c.schedule ≡ r.run
@@ -146,6 +150,15 @@ module _ {L : Type 0} (sent : L → Option (List (ℕ × List ℕ))) (given : L 
           -- these were handed over
           pub hands_next : (number : ℕ) (index : FrameIndex) (b : L) → HandedAll sent given faults frames number link c.index index b → Handed sent given [] (frames_between r next) link b
           hands_next number index b handed = record { looked = handed.looked; sends = subst (Grew (sent link) (sent b)) (sym between_are) handed.sends }
+
+          -- or a prefix of these
+          pub prefix_next : (e : LinkError) (b : L) → HandedSome sent given faults e frames link b → HandedPrefix sent given [] (frames_between r next) link b
+          prefix_next e b some = (
+            map frame_out some.prefix,
+            map frame_out some.rest,
+            between_are ∙ ap (λ (l : List Frame). map frame_out l) some.all ∙ map-append frame_out some.prefix some.rest,
+            record { looked = some.looked; sends = some.sends },
+          )
 
           -- so many were sent before
           grown_to : (fs more : List (ℕ × List ℕ)) → fs ≡ frames_of r.run ++ more → length (frames_before w next) ≤ length fs

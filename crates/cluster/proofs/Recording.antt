@@ -1,11 +1,12 @@
 -- One event in a recorder: the calls that it takes, together.
-use Rattle.std.proofs.Common.{◌≡◌, ◌≤◌, ◌<◌, ◌+◌, ◌∙◌, ℕ, true, false, List, ◌++◌, length, drop, Option, Ok, Err, ap, subst, arith, length-append}
+use Rattle.std.proofs.Common.{◌≡◌, ◌≤◌, ◌<◌, ◌+◌, ◌∙◌, ℕ, true, false, List, [], ◌++◌, length, drop, Option, Ok, Err, ap, subst, arith, length-append}
 use Rattle.std.specs.Prelude.{nat_le}
 use Rattle.std.proofs.lemmas.Bool.Decides.{nat_tests}
 use Rattle.ens_base.specs.declared.peer_words.ClusterWords.{ClusterWords}
 use Rattle.environment.specs.declared.errors.LinkError.{LinkError}
 use Rattle.cluster.specs.Messages.{MayBeRecorded, mail_before}
 use Rattle.cluster.specs.Recordings.{Recording, recorded}
+use Rattle.cluster.specs.Ends.{HandedPrefix, frames_between}
 use Rattle.network.specs.declared.index.FrameIndex.{FrameIndex}
 use Rattle.world_model.specs.WorldSpec.{Account, Run}
 use Rattle.schedule_text.specs.declared.event.ScheduleEvent.{ScheduleEvent}
@@ -16,7 +17,7 @@ use Rattle.cluster.specs.Sending.{AddsTo, HandedAll, HandedSome}
 use Rattle.cluster.specs.declared.recorder.Recorder.{Recorder}
 use Rattle.cluster.specs.declared.stop.Stop.{Stop}
 use Rattle.cluster.specs.declared.stop.Stop.TheVariants.{Lines, World as OfWorld, Link as OfLink}
-use Rattle.cluster.proofs.Reaching.{hands_next, reaches_next, stops_full, stops_link, stops_world}
+use Rattle.cluster.proofs.Reaching.{prefix_next, hands_next, reaches_next, stops_full, stops_link, stops_world}
 use Rattle.cluster.proofs.Stepping.{next_step, sent_now}
 
 is_full : (n : ℕ) → nat_le 200000 n ≡ true → 200000 ≤ n
@@ -67,6 +68,11 @@ module _ (c : Recorder) (event : ScheduleEvent) (step : IsInStep c (mail_before 
         pub stops_handing : (error : LinkError) → HandedSome sent given faults error frames link b → StopsAt sent given faults w first a looks (recorded event r) (OfLink error) b later
         stops_handing error some =
             stops_link sent given faults w first a looks r c link mid reached event step may (is_not_full (length c.schedule.events + 3) few) d.world later did.world did.within did.has error b
+            (subst (λ (l : List Frame). HandedSome sent given faults error l link b) frames_same some)
+
+        pub prefix_handed : (error : LinkError) → HandedSome sent given faults error frames link b → HandedPrefix sent given [] (frames_between r (recorded event r)) link b
+        prefix_handed error some =
+            prefix_next sent given faults w first a looks r c link mid reached event step may (is_not_full (length c.schedule.events + 3) few) d.world later did.world did.within did.has error b
             (subst (λ (l : List Frame). HandedSome sent given faults error l link b) frames_same some)
 
   -- the world refused the event

@@ -123,6 +123,29 @@ module _ {L : Type 0} (sent : L → Option (List (ℕ × List ℕ))) (given : L 
   Went (Event event ∷ more) looks r a b = (m : L) × Handed [] (frames_between r (recorded event r)) a m × Went more looks (recorded event r) m b
   Went (Turn count ∷ more) looks r a b = (m : L) × Looked (take count looks) r a m × Went more (drop count looks) (heard_all (take count looks) r) m b
 
+  -- of these frames a prefix was handed over, which may be all of them, and the looks gave this
+  abbrev pub HandedPrefix : List (Option (List ℕ)) → List (ℕ × List ℕ) → L → L → Type 0
+  HandedPrefix looks frames a b = (prefix : List (ℕ × List ℕ)) × (rest : List (ℕ × List ℕ)) × (frames ≡ prefix ++ rest) × Handed looks prefix a b
+
+  -- Looks were made as before, and then the run was stopped: behind the last of them, or when a prefix of its
+  -- messages was handed over.
+  abbrev pub LookedUntil : List (Option (List ℕ)) → Recording → L → L → Type 0
+  LookedUntil [] r a b = Handed [] [] a b
+  LookedUntil (look ∷ more) r a b =
+      ((m : L) × Handed (look ∷ []) (frames_between r (heard look r)) a m × LookedUntil more (heard look r) m b)
+      ⊎ ((more ≡ []) × HandedPrefix (look ∷ []) (frames_between r (heard look r)) a b)
+
+  -- Lines were followed as before, and then the run was stopped: behind the last of them, in its looks, or when a
+  -- prefix of its messages was handed over.
+  abbrev pub WentUntil : List ScriptLine → List (Option (List ℕ)) → Recording → L → L → Type 0
+  WentUntil [] looks r a b = Handed [] [] a b
+  WentUntil (Event event ∷ more) looks r a b =
+      ((m : L) × Handed [] (frames_between r (recorded event r)) a m × WentUntil more looks (recorded event r) m b)
+      ⊎ ((more ≡ []) × HandedPrefix [] (frames_between r (recorded event r)) a b)
+  WentUntil (Turn count ∷ more) looks r a b =
+      ((m : L) × Looked (take count looks) r a m × WentUntil more (drop count looks) (heard_all (take count looks) r) m b)
+      ⊎ ((more ≡ []) × LookedUntil (take count looks) r a b)
+
   -- The script was followed to its end, and this was recorded. Every message of the run was handed to the
   -- link, once, for the number of its receiver, in the order of sending, and before the next look.
   pub record Recorded (w : ClusterWords) (script : List ScriptLine) (r : Recording) (a b : L) : Type 0 where
@@ -132,7 +155,8 @@ module _ {L : Type 0} (sent : L → Option (List (ℕ × List ℕ))) (given : L 
     pub went : Went script looks (opening w) a b
 
   -- A part of the script was followed, and the run was stopped in the line that was recorded last, or before
-  -- the first one. Every message that was sent before this line was handed to the link, and no other.
+  -- the first one. Every message that was sent before this line was handed to the link, before the next line or
+  -- look, and no other.
   pub record Stopped (first : Account) (w : ClusterWords) (script : List ScriptLine) (r : Recording) (a b : L) : Type 0 where
     pub part : List ScriptLine
     pub is_part : IsPart part script
@@ -140,9 +164,11 @@ module _ {L : Type 0} (sent : L → Option (List (ℕ × List ℕ))) (given : L 
     pub follows : Follows part looks (opening w) r
     pub came : CameThere first w r
     pub handed : Handed looks (frames_before w r) a b
+    pub went : WentUntil part looks (opening w) a b
 
   -- A part of the script was followed, and a prefix of the messages of its run was handed to the link: all that
-  -- were sent before the line that was recorded last, and maybe some of this line.
+  -- were sent before the line that was recorded last, each before the next line or look, and maybe some of this
+  -- line.
   pub record BrokenOff (w : ClusterWords) (script : List ScriptLine) (a b : L) : Type 0 where
     pub part : List ScriptLine
     pub is_part : IsPart part script
@@ -154,6 +180,7 @@ module _ {L : Type 0} (sent : L → Option (List (ℕ × List ℕ))) (given : L 
     pub all : frames_of r.run ≡ prefix ++ rest
     pub most : length (frames_before w r) ≤ length prefix
     pub handed : Handed looks prefix a b
+    pub went : WentUntil part looks (opening w) a b
 
 -- how a cluster ends that read no script: the link is as it was
 abbrev pub Unread : {L : Type 0} → ClusterWords → Option (List ℕ) → L → L → Status → List ℕ → Type 0

@@ -16,7 +16,7 @@ use Rattle.schedule_text.specs.declared.event.ScheduleEvent.{ScheduleEvent}
 use Rattle.world_model.specs.Turns.{StopsAmong, turn, turns_of}
 use Rattle.world_model.specs.Worlds.{run_of}
 use Rattle.world_model.specs.declared.error.WorldError.{WorldError}
-use Rattle.cluster.specs.Ends.{CameThere, Handed, IsPastLines, Looked, Went, frames_before, frames_between, opening, recorded_schedule}
+use Rattle.cluster.specs.Ends.{CameThere, Handed, HandedPrefix, IsPastLines, Looked, LookedUntil, Went, WentUntil, frames_before, frames_between, opening, recorded_schedule}
 use Rattle.cluster.specs.declared.recorder.Recorder.{Recorder}
 use Rattle.cluster.specs.declared.stop.Stop.{Stop}
 use Rattle.cluster.specs.declared.stop.Stop.TheVariants.{Lines, World, Link}
@@ -100,19 +100,19 @@ module _ {L : Type 0} (sent : L → Option (List (ℕ × List ℕ))) (given : L 
   -- an event was to be recorded, with the link in this state: it was, or the recorder stopped in its line
   abbrev pub Records : List (Option (List ℕ)) → Recording → ScheduleEvent → L → Result (Unit {0}) Stop → Recorder → L → Account → Type 0
   Records looks r event link (Ok x) c b now = Reached looks (recorded event r) c b now × Handed sent given [] (frames_between r (recorded event r)) link b
-  Records looks r event link (Err e) c b now = StopsAt looks (recorded event r) e b now
+  Records looks r event link (Err e) c b now = StopsAt looks (recorded event r) e b now × HandedPrefix sent given [] (frames_between r (recorded event r)) link b
 
   -- so many looks, one after another: what they gave was heard, or the recorder stopped in one of them
   abbrev pub Hears : ℕ → List (Option (List ℕ)) → Recording → L → Result (Unit {0}) Stop → Recorder → L → Account → Type 0
   Hears count looks r link (Ok x) c b now = (more : List (Option (List ℕ))) × (length more ≡ count) × Reached (looks ++ more) (heard_all more r) c b now × Looked sent given more r link b
-  Hears count looks r link (Err e) c b now = (more : List (Option (List ℕ))) × (length more ≤ count) × StopsAt (looks ++ more) (heard_all more r) e b now
+  Hears count looks r link (Err e) c b now = (more : List (Option (List ℕ))) × (length more ≤ count) × StopsAt (looks ++ more) (heard_all more r) e b now × LookedUntil sent given more r link b
 
   -- lines of a script were followed, or the recorder stopped in them
   abbrev pub FollowsOn : List ScriptLine → List (Option (List ℕ)) → Recording → L → Result (Unit {0}) Stop → Recorder → L → Account → Type 0
   FollowsOn lines looks r link (Ok x) c b now = (more : List (Option (List ℕ))) × (s : Recording) × Follows lines more r s × Reached (looks ++ more) s c b now × Went sent given lines more r link b
-  FollowsOn lines looks r link (Err e) c b now = (part : List ScriptLine) × (more : List (Option (List ℕ))) × (s : Recording) × IsPart part lines × Follows part more r s × StopsAt (looks ++ more) s e b now
+  FollowsOn lines looks r link (Err e) c b now = (part : List ScriptLine) × (more : List (Option (List ℕ))) × (s : Recording) × IsPart part lines × Follows part more r s × StopsAt (looks ++ more) s e b now × WentUntil sent given part more r link b
 
   -- the whole script was followed, by a recorder that is returned, or it stopped in it
   abbrev pub RecordsAll : List ScriptLine → Result Recorder Stop → L → Account → Type 0
   RecordsAll script (Ok c) b now = IsInStep c (mail_in c) × ((looks : List (Option (List ℕ))) × (s : Recording) × Follows script looks (opening w) s × Reached looks s c b now × Went sent given script looks (opening w) a b)
-  RecordsAll script (Err e) b now = (part : List ScriptLine) × (looks : List (Option (List ℕ))) × (s : Recording) × IsPart part script × Follows part looks (opening w) s × StopsAt looks s e b now
+  RecordsAll script (Err e) b now = (part : List ScriptLine) × (looks : List (Option (List ℕ))) × (s : Recording) × IsPart part script × Follows part looks (opening w) s × StopsAt looks s e b now × WentUntil sent given part looks (opening w) a b

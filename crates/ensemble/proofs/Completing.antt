@@ -16,6 +16,7 @@ use Rattle.root.proofs.Completing.{runs_out as root_runs_out}
 use Rattle.command_line.specs.declared.job.Job.{Job}
 use Rattle.command_line.specs.declared.job.Job.TheVariants.{Replay, Peer, Cluster, Audit, Backup, Check, Restore, Root, Generate}
 use Rattle.world_spec.specs.Held.{Account}
+use Rattle.peer_server.proofs.Room.{disk_failed}
 use Rattle.peer_server.specs.Serving.{Ended, Failed, Printed}
 use Rattle.peer_server.specs.declared.disks.Disks.{Disks}
 use Rattle.audit.proofs.Printing.{runs_out as report_runs_out}
@@ -23,7 +24,7 @@ use Rattle.root.proofs.ReplayJob.{runs_out}
 use Rattle.root.specs.ReplayJob.{PrintsWith, RanOut, nothing_hashed, StaysWithin}
 use Rattle.schedule_text.specs.Spelling.{schedule_text}
 use Rattle.ensemble.proofs.Endings.{asked_one}
-use Rattle.ensemble.specs.Peers.{AreSound, HasBackedUp, HasRecorded, HasRestored, HasServed, OnOutside}
+use Rattle.ensemble.specs.Peers.{AreSound, CanServe, HasBackedUp, HasRecorded, HasRestored, HasServed, OnOutside}
 use Rattle.schedule_generator.specs.Generated.{generate}
 use Rattle.ensemble.specs.Top.{Does, IsRecordable, IsUnhindered, PrintsSchedule, PrintsSummary}
 
@@ -63,12 +64,12 @@ module _ (old new : Option (List ℕ)) (before now : ℕ) (result : Status) (qui
     link_rose w (inr (inr unstarted, same_link, same_ticker)) = absurd unstarted.cause
 
     served_out : (w : PeerWords) (status : Status) (text : List ℕ) → Ended seen may_leave moment left_since faults sent given link_faults coming w disks disks_after link link_after ticker ticker_after status text
-        → (Falls w Status.StoreFault → ⊥) → (Rose (link_faults link) (link_faults link_after) → ⊥) → RanOut status
-    served_out w Status.Done text ended stores links = inl refl
-    served_out w Status.Memory text ended stores links = inr refl
-    served_out w Status.StoreFault text ended stores links = absurd (stores ended.0)
-    served_out w Status.LinkFault text ended stores links = absurd (links (link_rose w ended.0))
-    served_out w status text ended stores links = absurd ended
+        → CanServe seen faults link_faults disks disks_after link link_after w → RanOut status
+    served_out w Status.Done text ended can = inl refl
+    served_out w Status.Memory text ended can = inr refl
+    served_out w Status.StoreFault text ended can = absurd (can.0 (disk_failed seen may_leave moment left_since faults sent given link_faults coming w disks disks_after link link_after ticker ticker_after can.1 ended.0))
+    served_out w Status.LinkFault text ended can = absurd (can.2 (link_rose w ended.0))
+    served_out w status text ended can = absurd ended
 
     -- ---- a cluster
 
@@ -109,7 +110,7 @@ module _ (old new : Option (List ℕ)) (before now : ℕ) (result : Status) (qui
     -- ---- any job
 
     abbrev Sound : Job → Type 0
-    Sound job = AreSound seen may_leave moment left_since faults sent given link_faults coming disks disks_after link link_after ticker ticker_after job
+    Sound job = AreSound seen faults link_faults disks disks_after link link_after job
 
     -- what became of the link, the disks and the ticker, for each job
     abbrev Linked : Option (List ℕ) → Type 0 → Job → Type 0
@@ -123,7 +124,7 @@ module _ (old new : Option (List ℕ)) (before now : ℕ) (result : Status) (qui
     unhindered source untouched Audit text free sound linked does calm = report_runs_out source result text free does calm
     unhindered source untouched Check text free sound linked does calm = check_runs_out source result text free does calm
     unhindered source untouched Root text free sound linked does calm = root_runs_out source result text free does calm
-    unhindered source untouched (Peer w) text free sound (status, printed, ended, out) does calm = ran_as status printed out (served_out w status printed ended sound.0 sound.1)
+    unhindered source untouched (Peer w) text free sound (status, printed, ended, out) does calm = ran_as status printed out (served_out w status printed ended sound)
     unhindered source untouched (Cluster w) text free sound (same_disks, same_ticker, (status, printed, ends, out)) does calm =
         ran_as status printed out (recorded_by w source status printed free sound ends (λ fault. calm (same_status status printed out ∙ fault)))
     unhindered source untouched Backup text free sound (facts, same_link, same_ticker, (status, printed, changed, out)) does calm =

@@ -1,7 +1,7 @@
 -- What a cluster prints, and what became of it, for the words that asked for it.
 use Rattle.std.proofs.Common.{◌≡◌, ◌⊎◌, ◌∙◌, ℕ, List, [], ◌∷◌, take, drop, Option, None, refl, sym, inl, inr, ap, subst}
 use Rattle.std.specs.Io.KnownBytes.{Appends}
-use Rattle.cluster.specs.Ends.{BrokenOff, EndsOverBook, HasRead, IsCluster, Looked, PrintsRecord, RunEnds, Stopped, Unread, Went, opening}
+use Rattle.cluster.specs.Ends.{BrokenOff, EndsOverBook, HandedPrefix, HasRead, IsCluster, Looked, LookedUntil, PrintsRecord, RunEnds, Stopped, Unread, Went, WentUntil, frames_between, opening}
 use Rattle.scripts.specs.declared.line.ScriptLine.{ScriptLine}
 use Rattle.scripts.specs.declared.line.ScriptLine.TheVariants.{Event, Turn}
 use Rattle.cluster.specs.Recordings.{Recording, heard, heard_all, recorded}
@@ -42,17 +42,6 @@ module _ {L : Type 0} (sent : L → Option (List (ℕ × List ℕ))) (given : L 
   abbrev nothing_given : ℕ → Option (List (Option (List ℕ)))
   nothing_given n = None
 
-  unseen_stop : (first : Account) (script : List ScriptLine) (r : Recording) → Stopped sent given first w script r a b → Stopped nothing_sent nothing_given first w script r (faults a) (faults b)
-  unseen_stop first script r stop = record { part = stop.part; is_part = stop.is_part; looks = stop.looks; follows = stop.follows; came = stop.came; handed = record { looked = tt; sends = tt } }
-
-  unseen_break : (script : List ScriptLine) → BrokenOff sent given w script a b → BrokenOff nothing_sent nothing_given w script (faults a) (faults b)
-  unseen_break script broken = record { part = broken.part; is_part = broken.is_part; looks = broken.looks; r = broken.r; follows = broken.follows; prefix = broken.prefix; rest = broken.rest; all = broken.all; most = broken.most; handed = record { looked = tt; sends = tt } }
-
-  unseen_memory : (first : Account) (script : List ScriptLine) → BrokenOff sent given w script a b ⊎ ((r : Recording) × Stopped sent given first w script r a b)
-      → BrokenOff nothing_sent nothing_given w script (faults a) (faults b) ⊎ ((r : Recording) × Stopped nothing_sent nothing_given first w script r (faults a) (faults b))
-  unseen_memory first script (inl broken) = inl (unseen_break script broken)
-  unseen_memory first script (inr stop) = inr (stop.0, unseen_stop first script stop.0 stop.1)
-
   unseen_looks : (looks : List (Option (List ℕ))) (r : Recording) (x y : L) → Looked sent given looks r x y → Looked nothing_sent nothing_given looks r (faults x) (faults y)
   unseen_looks [] r x y looked = ap faults looked
   unseen_looks (look ∷ more) r x y looked = (faults looked.0, record { looked = tt; sends = tt }, unseen_looks more (heard look r) looked.0 y looked.2)
@@ -61,6 +50,44 @@ module _ {L : Type 0} (sent : L → Option (List (ℕ × List ℕ))) (given : L 
   unseen_lines [] looks r x y went = ap faults went
   unseen_lines (Event event ∷ more) looks r x y went = (faults went.0, record { looked = tt; sends = tt }, unseen_lines more looks (recorded event r) went.0 y went.2)
   unseen_lines (Turn count ∷ more) looks r x y went = (faults went.0, unseen_looks (take count looks) r x went.0 went.1, unseen_lines more (drop count looks) (heard_all (take count looks) r) went.0 y went.2)
+
+  unseen_prefix : (looks : List (Option (List ℕ))) (frames : List (ℕ × List ℕ)) (x y : L) → HandedPrefix sent given looks frames x y → HandedPrefix nothing_sent nothing_given looks frames (faults x) (faults y)
+  unseen_prefix looks frames x y prefix = (prefix.0, prefix.1, prefix.2, record { looked = tt; sends = tt })
+
+  unseen_looking : (looks : List (Option (List ℕ))) (r : Recording) (x y : L) → LookedUntil sent given looks r x y → LookedUntil nothing_sent nothing_given looks r (faults x) (faults y)
+  unseen_looking [] r x y looked = record { looked = tt; sends = tt }
+  unseen_looking (look ∷ more) r x y (inl looked) = inl (faults looked.0, record { looked = tt; sends = tt }, unseen_looking more (heard look r) looked.0 y looked.2)
+  unseen_looking (look ∷ more) r x y (inr last) = inr (last.0, unseen_prefix (look ∷ []) (frames_between r (heard look r)) x y last.1)
+
+  unseen_until : (lines : List ScriptLine) (looks : List (Option (List ℕ))) (r : Recording) (x y : L) → WentUntil sent given lines looks r x y → WentUntil nothing_sent nothing_given lines looks r (faults x) (faults y)
+  unseen_until [] looks r x y went = record { looked = tt; sends = tt }
+  unseen_until (Event event ∷ more) looks r x y (inl went) = inl (faults went.0, record { looked = tt; sends = tt }, unseen_until more looks (recorded event r) went.0 y went.2)
+  unseen_until (Event event ∷ more) looks r x y (inr last) = inr (last.0, unseen_prefix [] (frames_between r (recorded event r)) x y last.1)
+  unseen_until (Turn count ∷ more) looks r x y (inl went) = inl (faults went.0, unseen_looks (take count looks) r x went.0 went.1, unseen_until more (drop count looks) (heard_all (take count looks) r) went.0 y went.2)
+  unseen_until (Turn count ∷ more) looks r x y (inr last) = inr (last.0, unseen_looking (take count looks) r x y last.1)
+
+  unseen_stop : (first : Account) (script : List ScriptLine) (r : Recording) → Stopped sent given first w script r a b → Stopped nothing_sent nothing_given first w script r (faults a) (faults b)
+  unseen_stop first script r stop = record { part = stop.part; is_part = stop.is_part; looks = stop.looks; follows = stop.follows; came = stop.came; handed = record { looked = tt; sends = tt }; went = unseen_until stop.part stop.looks (opening w) a b stop.went }
+
+  unseen_break : (script : List ScriptLine) → BrokenOff sent given w script a b → BrokenOff nothing_sent nothing_given w script (faults a) (faults b)
+  unseen_break script broken = record {
+    part = broken.part;
+    is_part = broken.is_part;
+    looks = broken.looks;
+    r = broken.r;
+    follows = broken.follows;
+    prefix = broken.prefix;
+    rest = broken.rest;
+    all = broken.all;
+    most = broken.most;
+    handed = record { looked = tt; sends = tt };
+    went = unseen_until broken.part broken.looks (opening w) a b broken.went;
+  }
+
+  unseen_memory : (first : Account) (script : List ScriptLine) → BrokenOff sent given w script a b ⊎ ((r : Recording) × Stopped sent given first w script r a b)
+      → BrokenOff nothing_sent nothing_given w script (faults a) (faults b) ⊎ ((r : Recording) × Stopped nothing_sent nothing_given first w script r (faults a) (faults b))
+  unseen_memory first script (inl broken) = inl (unseen_break script broken)
+  unseen_memory first script (inr stop) = inr (stop.0, unseen_stop first script stop.0 stop.1)
 
   unseen_run : (first now : Account) (script : List ScriptLine) (status : Status) (text : List ℕ) → RunEnds sent given faults first now w script a b status text → RunEnds nothing_sent nothing_given (λ n. n) first now w script (faults a) (faults b) status text
   unseen_run first now script Status.Done text ends = (ends.0, record { looks = ends.1.looks; follows = ends.1.follows; handed = record { looked = tt; sends = tt }; went = unseen_lines script ends.1.looks (opening w) a b ends.1.went }, ends.2)

@@ -1,5 +1,5 @@
 -- The jobs that use a link or disks, and what they leave of the disks, the link and the ticker.
-use Rattle.std.specs.Prelude.{◌≡◌, ◌⊎◌, ℕ, Bool, List, Option, None, Some, Result}
+use Rattle.std.specs.Prelude.{◌≡◌, ◌⊎◌, ℕ, ◌+◌, Bool, List, Option, None, Some, Result}
 use Rattle.backup_job.specs.Backed.{Backed, CanBackUp}
 use Rattle.backup_job.specs.Disks.{AreBoth, Between, PairRose}
 use Rattle.backup_job.specs.Restored.{Restored}
@@ -12,8 +12,9 @@ use Rattle.ens_base.specs.declared.status.Status.{Status}
 use Rattle.command_line.specs.Forms.{AskFor}
 use Rattle.command_line.specs.declared.job.Job.{Job}
 use Rattle.command_line.specs.declared.job.Job.TheVariants.{Peer, Cluster, Backup, Restore}
-use Rattle.peer_server.specs.Faults.{fault_text}
-use Rattle.peer_server.specs.Serving.{Ended, Failed, Printed}
+use Rattle.peer_server.specs.DiskPeers.{Of}
+use Rattle.peer_server.specs.Faults.{DiskRose, HasRoom, fault_text}
+use Rattle.peer_server.specs.Serving.{Ended, Printed}
 use Rattle.peer_server.specs.declared.disks.Disks.{Disks}
 use Rattle.ensemble.specs.declared.arguments.ArgumentsError.{ArgumentsError}
 use Rattle.ensemble.specs.Top.{GivenFor}
@@ -103,21 +104,19 @@ module _ {D L T : Type 0} (seen : D → Option (List ℕ)) (faults : D → ℕ) 
   CameToRestore source old new before now result =
       HasRestored source old new before now result ⊎ (AreUntouched disks disks_after link link_after ticker ticker_after × Printed old new before now Status.Memory (fault_text Status.Memory) result)
 
+module _ {D L : Type 0} (seen : D → Option (List ℕ)) (faults : D → ℕ) (link_faults : L → ℕ) (disks disks_after : Disks D) (link link_after : L) where
+  -- No disk of the peer failed, and its link counted no fault. The disk of facts tells a fact or nothing, and has
+  -- room for one save in each turn and one more.
+  abbrev pub CanServe : PeerWords → Type 0
+  CanServe w = (¬ DiskRose faults disks disks_after) × Of disks.facts (HasRoom seen (w.turns + 1)) × (¬ Rose (link_faults link) (link_faults link_after))
+
   -- the disks of nodes and of objects are so, before and after
   abbrev pub DisksAre : (Pair D → Pair D → Type 0) → Type 0
   DisksAre P = (first last : Pair D) → AreBoth disks.nodes disks.objects first → AreBoth disks_after.nodes disks_after.objects last → P first last
 
-module _ {D L T : Type 0} (seen : D → Option (List ℕ)) (may_leave : D → List ℕ → Type 0) (moment : D → ℕ) (left_since : D → ℕ → List ℕ → Type 0) (faults : D → ℕ)
-    (sent : L → Option (List (ℕ × List ℕ))) (given : L → Option (List (Option (List ℕ)))) (link_faults : L → ℕ) (coming : T → Option (ℕ → Bool)) where
-  -- no store of the peer failed, and its link counted no fault
-  abbrev pub StoresHold : Disks D → Disks D → L → L → T → T → PeerWords → Type 0
-  StoresHold disks disks_after link link_after ticker ticker_after w =
-      (¬ Failed seen may_leave moment left_since faults sent given link_faults coming w Status.StoreFault disks disks_after link link_after ticker ticker_after) × (¬ Rose (link_faults link) (link_faults link_after))
-
-  -- Nothing outside failed under the job: under a peer neither its stores nor its link, under a cluster not its
-  -- link, and under a backup or a restore neither of its disks. The disks of a backup tell what can be backed up.
-  abbrev pub AreSound : Disks D → Disks D → L → L → T → T → Job → Type 0
-  AreSound disks disks_after link link_after ticker ticker_after job =
-      OnOutside job (StoresHold disks disks_after link link_after ticker ticker_after) (λ w. ¬ Rose (link_faults link) (link_faults link_after))
-      (DisksAre seen faults disks disks_after link link_after ticker ticker_after (λ first last. (¬ PairRose seen faults first last) × CanBackUp seen faults first))
-      (DisksAre seen faults disks disks_after link link_after ticker ticker_after (λ first last. ¬ PairRose seen faults first last)) (Unit {0})
+  -- Nothing outside failed under the job: under a peer none of its disks nor its link, under a cluster not its
+  -- link, and under a backup or a restore neither of its disks. The disk of the facts of a peer tells a fact that can
+  -- be replaced, or nothing, and the disks of a backup tell what can be backed up.
+  abbrev pub AreSound : Job → Type 0
+  AreSound job =
+      OnOutside job CanServe (λ w. ¬ Rose (link_faults link) (link_faults link_after)) (DisksAre (λ first last. (¬ PairRose seen faults first last) × CanBackUp seen faults first)) (DisksAre (λ first last. ¬ PairRose seen faults first last)) (Unit {0})

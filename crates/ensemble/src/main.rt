@@ -10,16 +10,16 @@
 
 mod arguments;
 mod generating;
-mod host;
 mod laws;
+mod system;
 mod top;
 
 use arguments::all_arguments;
 use ens_base::Status;
 use environment::{ReaderSource, WriterSink, finish};
-use host::{disks_of, job_of, link_of, stand_in, ticker_of};
 use std::env;
 use std::process::ExitCode;
+use system::{disks_of, job_of, link_of, stand_in, ticker_of};
 use top::run_program;
 
 fn main(rt: HostRuntime) -> ExitCode {

@@ -153,8 +153,7 @@ pub fn ensemble_main<S: Source, O: Sink, L: Link, D: Disk + Drop, T: Ticker, R: 
     ensures write { result ≡ Status.WriteFault → Rose (O.fault_count output.old) (O.fault_count output.new) }
     // If no other end has a cause, the job runs to its end, unless out of memory.
     ensures completes { (job : Job) → AskFor (map (λ w. w.now) words.now) job → IsUnhindered job (S.left input.old)
-        → AreSound D.seen D.may_leave D.moment D.left_since D.fault_count L.sent L.given L.fault_count T.coming
-        disks.old disks.new link.old link.new ticker.old ticker.new job
+        → AreSound D.seen D.fault_count L.fault_count disks.old disks.new link.old link.new job
         → ¬ Rose (S.fault_count input.old) (S.fault_count input.new) → ¬ Rose (O.fault_count output.old) (O.fault_count output.new) → RanOut result }
     // What became of a peer: its turns, its steps and what they sent, its disks, and what it printed.
     ensures served { (w : Words) → AskFor (map (λ w. w.now) words.now) (jobs.Peer w)
@@ -216,9 +215,7 @@ pub fn run_program<S: Source, O: Sink, L: Link, D: Disk + Drop, T: Ticker, R: Th
     ensures read { result ≡ Status.ReadFault → Rose (S.fault_count input.old) (S.fault_count input.new) }
     ensures write { result ≡ Status.WriteFault → Rose (O.fault_count output.old) (O.fault_count output.new) }
     // If no other end has a cause, the job runs to its end, unless out of memory.
-    ensures completes { (job : Job) → GivenFor (words_given all.now) job → IsUnhindered job (S.left input.old)
-        → AreSound D.seen D.may_leave D.moment D.left_since D.fault_count L.sent L.given L.fault_count T.coming
-        disks.old disks.new link.old link.new ticker.old ticker.new job
+    ensures completes { (job : Job) → GivenFor (words_given all.now) job → IsUnhindered job (S.left input.old) → AreSound D.seen D.fault_count L.fault_count disks.old disks.new link.old link.new job
         → ¬ Rose (S.fault_count input.old) (S.fault_count input.new) → ¬ Rose (O.fault_count output.old) (O.fault_count output.new) → RanOut result }
     // What became of a peer, unless memory ran out before its words were read.
     ensures served { (w : Words) → GivenFor (words_given all.now) (jobs.Peer w)

@@ -27,9 +27,7 @@ use Rattle.peer_state.specs.declared.event.Event.TheVariants as happenings
 use Rattle.peer_state.specs.declared.state.State.{State}
 use Rattle.slot_disk.proofs.Runs.{weaker}
 use Rattle.slot_disk.specs.Crash.{LeavesOnly, Told}
-use Rattle.slot_disk.specs.SlotFiles.{IsAtRest, remembered}
-use Rattle.slot_disk.specs.Slots.{last_serial}
-use Rattle.slot_disk.specs.declared.slot_file.SlotFile.{SlotFile}
+use Rattle.slot_disk.specs.SlotFiles.{IsAtRest}
 use Rattle.step_plans.specs.Calls.{Call, AnswerOf}
 use Rattle.step_plans.specs.Plans.{Finished, Runs, nothing}
 use Rattle.step_plans.specs.declared.error.PeerError.{PeerError}
@@ -45,7 +43,7 @@ use Rattle.peer_server.proofs.Underway.{all_given}
 use Rattle.peer_server.proofs.Walked.{did_keeps, run_keeps}
 use Rattle.peer_server.specs.Commits.{IsFactOfSome, LeavesFacts}
 use Rattle.peer_server.specs.DiskPeers.{KeepsNodes, KeepsObjects, Of, OnDisks, disks_do, disks_refuse, disks_under}
-use Rattle.peer_server.specs.Faults.{Between, IsCause, IsStoreCause, peer_status, status_of}
+use Rattle.peer_server.specs.Faults.{Between, DiskRose, IsCause, IsStartCause, IsStoreCause, peer_status, status_of}
 use Rattle.peer_server.specs.Lines.{Line, looked, posted}
 use Rattle.peer_server.specs.Rounds.{AllMade, BrokeAt, Durable, FileEnds}
 use Rattle.peer_server.specs.Serving.{Interrupted, IsDurable, IsFoundOrOfSome, Served}
@@ -112,21 +110,22 @@ module _ {D : Type 0} (seen : D → Option (List ℕ)) (may_leave : D → List �
   opened_honest : (disks : Disks D) (first : OnDisks D) (file : FactFile D) → Opened seen may_leave moment left_since faults disks first file → IsHonest (IsBadIn file) first
   opened_honest disks first file opened why is = sym opened.held ∙ is
 
-  -- a cause that began with opened stores began with their disks; whatever became of the file of facts
-  from_disks : (disks : Disks D) (first end : OnDisks D) (file last : FactFile D) (X : FactError → Type 0) → Opened seen may_leave moment left_since faults disks first file → ((why : FactError) → X why → IsBadIn last why) → Caused faults X first end
-      → IsStoreCause faults disks (disks_under end.0 last) last
-  from_disks disks first end file last X opened bad (inl rose) =
+  -- a cause that began with opened stores began with their disks, or it is another; whatever became of the file
+  -- of facts
+  from_disks : (disks : Disks D) (first end : OnDisks D) (file last : FactFile D) (X : FactError → Type 0) (Other : Type 0) → Opened seen may_leave moment left_since faults disks first file → ((why : FactError) → X why → Other) → Caused faults X first end
+      → DiskRose faults disks (disks_under end.0 last) ⊎ Other
+  from_disks disks first end file last X Other opened other (inl rose) =
       let count : ℕ = faults first.0.tree.store.log.file.disk in
       inl (inr (inl (rose_between faults disks.nodes end.0.tree.store.log.file.disk count (of_less disks.nodes (NodesOpened first) (λ (d : D). count ≡ faults d) (λ d both. both.1) opened.nodes) rose)))
-  from_disks disks first end file last X opened bad (inr (inl rose)) =
+  from_disks disks first end file last X Other opened other (inr (inl rose)) =
       let count : ℕ = faults first.0.backend.log.file.disk in
       inl (inr (inr (rose_between faults disks.objects end.0.backend.log.file.disk count (of_less disks.objects (ObjectsOpened first) (λ (d : D). count ≡ faults d) (λ d both. both.1) opened.objects) rose)))
-  from_disks disks first end file last X opened bad (inr (inr useless)) = inr (inl (useless.0, bad useless.0 useless.1))
+  from_disks disks first end file last X Other opened other (inr (inr useless)) = inr (other useless.0 useless.1)
 
   -- a save that was refused
   from_save : (disks : Disks D) (first end : OnDisks D) (file m last : FactFile D) → Opened seen may_leave moment left_since faults disks first file → faults m.slots.disk ≡ faults file.slots.disk → IsSpent m last ⊎ DiskFailed faults m last
-      → IsStoreCause faults disks (disks_under end.0 last) last
-  from_save disks first end file m last opened good (inl spent) = inr (inr (ap (λ (k : SlotFile D). last_serial (remembered k)) spent.slots ∙ spent.last))
+      → IsStoreCause faults disks (disks_under end.0 last) m last
+  from_save disks first end file m last opened good (inl spent) = inr spent
   from_save disks first end file m last opened good (inr failed) =
       let count : ℕ = faults m.slots.disk in
       inl (inl (rose_between faults disks.facts last.slots.disk count (of_less disks.facts (FileOpened file) (λ (d : D). count ≡ faults d) (λ d both. good ∙ both.1) opened.facts) failed.rose))
@@ -179,9 +178,9 @@ module _ {D : Type 0} (seen : D → Option (List ℕ)) (may_leave : D → List �
       (λ d bytes held moments. rests_left d file (λ now. now ≡ file_fact bytes) (λ now. now ≡ file_fact bytes) (opened_rests d bytes file (λ now. now ≡ file_fact bytes) refl held moments) held.1) opened
 
   -- a start that was stopped by a fault of the stores
-  start_cause : (view : List ℕ) (disks : Disks D) (first end : OnDisks D) (file : FactFile D) → Opened seen may_leave moment left_since faults disks first file → RanInto Does Refuses statuses.StoreFault (start_of served_mode view) first end → IsStoreCause faults disks (disks_under end.0 file) file
+  start_cause : (view : List ℕ) (disks : Disks D) (first end : OnDisks D) (file : FactFile D) → Opened seen may_leave moment left_since faults disks first file → RanInto Does Refuses statuses.StoreFault (start_of served_mode view) first end → IsStartCause faults disks (disks_under end.0 file) file
   start_cause view disks first end file opened into =
-      from_disks disks first end file file (IsBadIn file) opened (λ why bad. bad) (stopped_caused seen faults (IsBadIn file) (start_of served_mode view) first [] into.error end into.notes into.ran (opened_honest disks first file opened) into.is)
+      from_disks disks first end file file (IsBadIn file) ((why : FactError) × IsBadIn file why) opened (λ why bad. (why, bad)) (stopped_caused seen faults (IsBadIn file) (start_of served_mode view) first [] into.error end into.notes into.ran (opened_honest disks first file opened) into.is)
 
   -- the peer did not start
   pub unstarted : (w : PeerWords) (disks : Disks D) (first end : OnDisks D) (file : FactFile D) (e : ServeError) → Opened seen may_leave moment left_since faults disks first file → RanInto Does Refuses (status_of e) (start_of served_mode w.view) first end
@@ -210,11 +209,11 @@ module _ {D : Type 0} (seen : D → Option (List ℕ)) (may_leave : D → List �
         did_keeps Does Refuses (Later faults NoReason began.first) (on_later NoReason began.first) w.me deeds x y s t did
         (record { objects = start.objects; nodes = start.nodes; honest = started_honest w.view began.first s x began.starts })
 
-    stopped_step_cause : (x y : State) (s m t : OnDisks D) (file last : FactFile D) (deeds : List Deed) (event : Event) → (began : Began seen may_leave moment left_since faults w disks x s file) → Did Does Refuses w.me x s deeds y m
-        → RanInto Does Refuses statuses.StoreFault (step_of w.me event y) m t → IsStoreCause faults disks (disks_under t.0 last) last
-    stopped_step_cause x y s m t file last deeds event began did into =
+    stopped_step_cause : (x y : State) (s m t : OnDisks D) (file kept last : FactFile D) (deeds : List Deed) (event : Event) → (began : Began seen may_leave moment left_since faults w disks x s file) → Did Does Refuses w.me x s deeds y m
+        → RanInto Does Refuses statuses.StoreFault (step_of w.me event y) m t → IsStoreCause faults disks (disks_under t.0 last) kept last
+    stopped_step_cause x y s m t file kept last deeds event began did into =
         let later = later_from x y s m file deeds began did in
-        from_disks disks began.first t file last NoReason began.opened (λ why bad. absurd bad)
+        from_disks disks began.first t file last NoReason (IsSpent kept last) began.opened (λ why bad. absurd bad)
         (caused_later faults NoReason began.first m t later (stopped_caused seen faults NoReason (step_of w.me event y) m [] into.error t into.notes into.ran later.honest into.is))
 
     -- the steps kept what held of the opened stores
@@ -319,14 +318,14 @@ module _ {D : Type 0} (seen : D → Option (List ℕ)) (may_leave : D → List �
       -- why the stores failed
       fault_cause : (place : Place) (x : State) (p : OnDisks D) (f m g : FactFile D) (deeds : List Deed) (between b : Point (OnDisks D) (Line L)) → (began : Began seen may_leave moment left_since faults w disks x p f) → Did Does Refuses w.me x p deeds between.state between.stores
           → faults m.slots.disk ≡ faults f.slots.disk → FellAt Does Refuses (posted sent w.me) (looked given) w.me w place statuses.StoreFault between b
-          → FileEnds seen may_leave moment left_since faults sent given coming w place statuses.StoreFault (saved_by between.state) m g → IsStoreCause faults disks (disks_under b.stores.0 g) g
+          → FileEnds seen may_leave moment left_since faults sent given coming w place statuses.StoreFault (saved_by between.state) m g → IsStoreCause faults disks (disks_under b.stores.0 g) m g
       fault_cause Looking x p f m g deeds between b began did good fell ends = absurd fell
       fault_cause (Looked look) x p f m g deeds between b began did good fell ends = event_cause (event_of w look) fell
         where
-          event_cause : (o : Option Event) → Fell Does Refuses (posted sent w.me) (looked given) w.me statuses.StoreFault o between b → IsStoreCause faults disks (disks_under b.stores.0 g) g
+          event_cause : (o : Option Event) → Fell Does Refuses (posted sent w.me) (looked given) w.me statuses.StoreFault o between b → IsStoreCause faults disks (disks_under b.stores.0 g) m g
           event_cause None fell = absurd fell
-          event_cause (Some event) fell = stopped_step_cause x between.state p between.stores b.stores f g deeds event began did fell.ran
-      fault_cause (Ticked look) x p f m g deeds between b began did good fell ends = stopped_step_cause x between.state p between.stores b.stores f g deeds happenings.Tick began did fell.ran
+          event_cause (Some event) fell = stopped_step_cause x between.state p between.stores b.stores f m g deeds event began did fell.ran
+      fault_cause (Ticked look) x p f m g deeds between b began did good fell ends = stopped_step_cause x between.state p between.stores b.stores f m g deeds happenings.Tick began did fell.ran
       fault_cause Committing x p f m g deeds between b began did good fell ends = from_save disks began.first b.stores f m g began.opened good ends.0
 
       pub interrupted : (disks_after : Disks D) (e : ServeError) (a b : Server D) (l m : L) (s t : T) (turns : List Turn) (place : Place) → disks_after ≡ disks_under b.peer.machine.stores b.facts → length turns + begun_at place ≤ w.turns → a.unsent.items ≡ []
@@ -349,13 +348,11 @@ module _ {D : Type 0} (seen : D → Option (List ℕ)) (may_leave : D → List �
             broke = broke.broke;
             link_end = refl;
             disks_end = closed;
-            kept = lasts.kept;
-            late = lasts.late;
+            file = broke.file;
+            durable = lasts;
             few = broke.few;
-            steps = lasts.all;
-            state = lasts.state;
-            stores = lasts.stores;
-            reached = lasts.reached;
+            saves = broke.saves;
+            file_end = broke.end;
             sends = broke.sends;
             facts =
                 facts_told disks began.first a.facts
@@ -365,13 +362,13 @@ module _ {D : Type 0} (seen : D → Option (List ℕ)) (may_leave : D → List �
                 fault_left d broke.file b.facts (saved_by y) (Ever x p deeds bytes) (IsDurable seen may_leave moment left_since faults sent given link_faults coming w lasts.kept lasts.state (file_fact bytes))
                 (inr (of_all seen may_leave moment left_since faults w.me x p deeds y broke.broke.broke.between.stores broke.broke.broke.took.went.did)) (lasting_rests x p deeds a.facts broke.file d bytes lasts held moments)
                 (durable_kept lasts.kept lasts.state a.facts broke.file (file_fact bytes) held.1 lasts.newest) (file_ends place (status_of e) (saved_by y) broke.file b.facts broke.end)) began.opened;
-            cause = subst (λ (after : Disks D). IsCause (IsStoreCause faults disks after b.facts) (Rose (link_faults l) (link_faults m)) (status_of e)) (sym closed) (cause_of e broke link);
+            cause = subst (λ (after : Disks D). IsCause (IsStoreCause faults disks after broke.file b.facts) (Rose (link_faults l) (link_faults m)) (status_of e)) (sym closed) (cause_of e broke link);
           }
         where
-          cause_of : (e : ServeError) → BrokeAt seen may_leave moment left_since faults sent given coming w (status_of e) a b l m s t turns place → (e ≡ serves.Link → Rose (link_faults l) (link_faults m))
-              → IsCause (IsStoreCause faults disks (disks_under b.peer.machine.stores b.facts) b.facts) (Rose (link_faults l) (link_faults m)) (status_of e)
-          cause_of serves.Store broke link =
-              fault_cause place a.peer.machine.state (a.peer.machine.stores, record {}) a.facts broke.file b.facts broke.broke.broke.took.deeds broke.broke.broke.between (point b m) began broke.broke.broke.took.went.did
-              (commits_good broke.durable.facts a.facts broke.file broke.durable.commits) broke.broke.broke.fell broke.end
-          cause_of serves.Link broke link = link refl
-          cause_of serves.Memory broke link = tt
+          cause_of : (e : ServeError) → (broken : BrokeAt seen may_leave moment left_since faults sent given coming w (status_of e) a b l m s t turns place) → (e ≡ serves.Link → Rose (link_faults l) (link_faults m))
+              → IsCause (IsStoreCause faults disks (disks_under b.peer.machine.stores b.facts) broken.file b.facts) (Rose (link_faults l) (link_faults m)) (status_of e)
+          cause_of serves.Store broken link =
+              fault_cause place a.peer.machine.state (a.peer.machine.stores, record {}) a.facts broken.file b.facts broken.broke.broke.took.deeds broken.broke.broke.between (point b m) began broken.broke.broke.took.went.did
+              (commits_good broken.durable.facts a.facts broken.file broken.durable.commits) broken.broke.broke.fell broken.end
+          cause_of serves.Link broken link = link refl
+          cause_of serves.Memory broken link = tt

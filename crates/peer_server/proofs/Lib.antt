@@ -14,3 +14,4 @@ pub mod Opening
 pub mod Uncalled
 pub mod Ending
 pub mod Finishing
+pub mod Room

@@ -73,6 +73,26 @@ none_late = omega arith
 at_most : (n waiting : ℕ) → waiting ≤ 32 → n ≤ 2 * waiting → n ≤ 2 * 32
 at_most n waiting some few = omega (arith, some, few)
 
+-- ## How many facts are committed
+
+none_saved : length {A = SavedFact} [] + 0 ≤ length {A = Turn} []
+none_saved = omega arith
+
+-- after one more turn
+saves_on : (facts : List SavedFact) (waiting : ℕ) (turns : List Turn) (turn : Turn) → length facts + waiting ≤ length turns → length facts + (waiting + 1) ≤ length (turns ++ turn ∷ [])
+saves_on facts waiting turns turn saves = omega (arith, saves, length-append turns (turn ∷ []))
+
+-- after a commit that at least one turn waited for
+saves_again : (facts : List SavedFact) (fact : SavedFact) (waiting : ℕ) (turns : List Turn) → 1 ≤ waiting → length facts + waiting ≤ length turns → length (facts ++ fact ∷ []) + 0 ≤ length turns
+saves_again facts fact waiting turns some saves = omega (arith, some, saves, length-append facts (fact ∷ []))
+
+saves_so_far : (facts : List SavedFact) (waiting : ℕ) (turns : List Turn) → length facts + waiting ≤ length turns → length facts ≤ length turns + 1
+saves_so_far facts waiting turns saves = omega (arith, saves)
+
+-- after a last commit
+saves_at_last : (facts : List SavedFact) (fact : SavedFact) (waiting : ℕ) (turns : List Turn) → length facts + waiting ≤ length turns → length (facts ++ fact ∷ []) ≤ length turns + 1
+saves_at_last facts fact waiting turns saves = omega (arith, saves, length-append facts (fact ∷ []))
+
 -- ## Turns and commits
 
 -- these stores, with a hasher that keeps nothing
@@ -113,6 +133,7 @@ module _ {D L T : Type 0} (seen : D → Option (List ℕ)) (may_leave : D → Li
     pub made : Turned a b l m s t turns
     pub lasts : Lasts a made.took.deeds a.facts b.facts
     pub few : length lasts.late ≤ 2 * waiting
+    pub saves : length lasts.facts + waiting ≤ length turns
     pub sends : Grew (sent l) (sent m) (frames_in w.me lasts.kept)
 
   pub begun : (a : Server D) (l : L) (s : T) → a.unsent.items ≡ [] → Underway a a l l s s [] 0
@@ -121,6 +142,7 @@ module _ {D L T : Type 0} (seen : D → Option (List ℕ)) (may_leave : D → Li
     made = turns_none (disks_do seen faults) (disks_refuse seen faults) (posted sent w.me) (looked given) coming w (point a l) s;
     lasts = lasts_none seen may_leave moment left_since faults w.me a.peer.machine.state (a.peer.machine.stores, record {}) a.facts;
     few = none_few;
+    saves = none_saved;
     sends = grew_none (sent l);
   }
 
@@ -135,6 +157,7 @@ module _ {D L T : Type 0} (seen : D → Option (List ℕ)) (may_leave : D → Li
     made = turns_more (disks_do seen faults) (disks_refuse seen faults) (posted sent w.me) (looked given) coming w (point a l) (point b m) (point c n) s t u turns old new under.made one;
     lasts = lasts_more seen may_leave moment left_since faults w.me a.peer.machine.state (a.peer.machine.stores, record {}) under.made.took.deeds one.took.deeds a.facts b.facts c.facts file under.lasts;
     few = one_more waiting under.lasts.late one.took.deeds under.few (turn_few w one.turn one.took.deeds one.took.are);
+    saves = saves_on under.lasts.facts waiting turns one.turn under.saves;
     sends = still l m n (frames_in w.me under.lasts.kept) under.sends quiet;
   }
 
@@ -153,26 +176,31 @@ module _ {D L T : Type 0} (seen : D → Option (List ℕ)) (may_leave : D → Li
   turns_on link_faults a b c l m n s t turns made commit =
       turns_committed (disks_do seen faults) (disks_refuse seen faults) (posted sent w.me) (looked given) coming w (point a l) (point b m) (point c n) s t turns made (same_state b c commit.peer) (same_stores b c commit.peer) commit.sends.looked (none_wait b c m n commit.none commit.sends.sends)
 
-  pub committed : (link_faults : L → ℕ) (a b c : Server D) (l m n : L) (s t : T) (turns : List Turn) (waiting : ℕ) → Underway a b l m s t turns waiting → CommitMade seen may_leave moment left_since faults sent given link_faults w.me b c m n → Underway a c l n s t turns 0
-  committed link_faults a b c l m n s t turns waiting under commit = record {
+  abbrev lasts_on : (link_faults : L → ℕ) (a b c : Server D) (l m n : L) (s t : T) (turns : List Turn) (waiting : ℕ) (under : Underway a b l m s t turns waiting) → CommitMade seen may_leave moment left_since faults sent given link_faults w.me b c m n → Lasts a under.made.took.deeds a.facts c.facts
+  lasts_on link_faults a b c l m n s t turns waiting under commit =
+      lasts_committed seen may_leave moment left_since faults w.me a.peer.machine.state (a.peer.machine.stores, record {}) under.made.took.deeds b.peer.machine.state (b.peer.machine.stores, record {}) a.facts b.facts c.facts under.lasts under.made.took.went.did commit.fact
+
+  committed : (link_faults : L → ℕ) (a b c : Server D) (l m n : L) (s t : T) (turns : List Turn) (waiting : ℕ) → 1 ≤ waiting → Underway a b l m s t turns waiting → CommitMade seen may_leave moment left_since faults sent given link_faults w.me b c m n → Underway a c l n s t turns 0
+  committed link_faults a b c l m n s t turns waiting some under commit = record {
     none = under.none;
     made = turns_on link_faults a b c l m n s t turns under.made commit;
-    lasts =
-        lasts_committed seen may_leave moment left_since faults w.me a.peer.machine.state (a.peer.machine.stores, record {}) under.made.took.deeds b.peer.machine.state (b.peer.machine.stores, record {}) a.facts b.facts c.facts under.lasts under.made.took.went.did commit.fact;
+    lasts = lasts_on link_faults a b c l m n s t turns waiting under commit;
     few = none_few;
+    saves = saves_again under.lasts.facts (saved_by b.peer.machine.state) waiting turns some under.saves;
     sends = all_given sent w.me a c l n (frames_in w.me under.made.took.deeds) under.none commit.none (turns_on link_faults a b c l m n s t turns under.made commit).took.went.sends;
   }
 
   same_items : (b c : Server D) → c.unsent ≡ b.unsent → c.unsent.items ≡ b.unsent.items
   same_items b c same = ap (λ v. v.items) same
 
-  all_made : (a c : Server D) (l n : L) (s t : T) (turns : List Turn) → Underway a c l n s t turns 0 → c.unsent.items ≡ [] → file_kept c.facts ≡ Some (Ok (saved_by c.peer.machine.state)) → AllMade seen may_leave moment left_since faults sent given coming w a c l n s t turns
-  all_made a c l n s t turns under none newest = record { made = under.made; durable = under.lasts; newest = newest; none = none }
-
   -- after a last commit
   pub finished : (link_faults : L → ℕ) (a b c : Server D) (l m n : L) (s t : T) (turns : List Turn) (waiting : ℕ) → Underway a b l m s t turns waiting → CommitMade seen may_leave moment left_since faults sent given link_faults w.me b c m n → AllMade seen may_leave moment left_since faults sent given coming w a c l n s t turns
-  finished link_faults a b c l m n s t turns waiting under commit =
-      all_made a c l n s t turns (committed link_faults a b c l m n s t turns waiting under commit) commit.none (committed_kept seen may_leave moment left_since faults (saved_by b.peer.machine.state) b.facts c.facts commit.fact ∙ ap (λ (x : State). Some (Ok (saved_by x))) (sym (same_state b c commit.peer)))
+  finished link_faults a b c l m n s t turns waiting under commit = record {
+    made = turns_on link_faults a b c l m n s t turns under.made commit;
+    durable = lasts_on link_faults a b c l m n s t turns waiting under commit;
+    newest = committed_kept seen may_leave moment left_since faults (saved_by b.peer.machine.state) b.facts c.facts commit.fact ∙ ap (λ (x : State). Some (Ok (saved_by x))) (sym (same_state b c commit.peer));
+    none = commit.none;
+  }
 
   -- a fault in a turn
   pub turn_failed : (status : Status) (a b c : Server D) (l m n : L) (s t u : T) (turns : List Turn) (waiting : ℕ) → Underway a b l m s t turns waiting → waiting + 1 ≤ 32
@@ -183,6 +211,7 @@ module _ {D L T : Type 0} (seen : D → Option (List ℕ)) (may_leave : D → Li
     file = b.facts;
     durable = lasts_more seen may_leave moment left_since faults w.me a.peer.machine.state (a.peer.machine.stores, record {}) under.made.took.deeds one.broke.took.deeds a.facts b.facts b.facts refl under.lasts;
     few = at_most (length (under.lasts.late ++ one.broke.took.deeds)) (waiting + 1) room (one_more waiting under.lasts.late one.broke.took.deeds under.few (broken_few w one.place one.broke.took.deeds one.broke.took.are));
+    saves = saves_so_far under.lasts.facts waiting turns under.saves;
     sends = sent_before one.place status (sent l) (sent n) (frames_in w.me under.lasts.kept) one.inside (still l m n (frames_in w.me under.lasts.kept) under.sends quiet);
     end = file_stays one.place status (saved_by one.broke.between.state) b.facts c.facts one.inside file;
   }
@@ -200,6 +229,7 @@ module _ {D L T : Type 0} (seen : D → Option (List ℕ)) (may_leave : D → Li
     file = b.facts;
     durable = under.lasts;
     few = at_most (length under.lasts.late) waiting room under.few;
+    saves = saves_so_far under.lasts.facts waiting turns under.saves;
     sends = subst (λ (k : L). Grew (sent l) (sent k) (frames_in w.me under.lasts.kept)) (sym off.still) under.sends;
     end = off.refused;
   }
@@ -234,6 +264,7 @@ module _ {D L T : Type 0} (seen : D → Option (List ℕ)) (may_leave : D → Li
     file = c.facts;
     durable = lasts_after link_faults a b c l m n s t turns waiting under off;
     few = none_late;
+    saves = saves_at_last under.lasts.facts (saved_by b.peer.machine.state) waiting turns under.saves;
     sends = prefix_sent link_faults a b c l m n s t turns waiting under off;
     end = refl;
   }
@@ -242,15 +273,16 @@ module _ {D L T : Type 0} (seen : D → Option (List ℕ)) (may_leave : D → Li
     file = c.facts;
     durable = lasts_after link_faults a b c l m n s t turns waiting under off;
     few = none_late;
+    saves = saves_at_last under.lasts.facts (saved_by b.peer.machine.state) waiting turns under.saves;
     sends = prefix_sent link_faults a b c l m n s t turns waiting under off;
     end = refl;
   }
   commit_failed status a b c l m n s t turns waiting under room link_faults off = absurd off
 
   -- the end of a turn
-  pub ended : (link_faults : L → ℕ) (a b c : Server D) (l m n : L) (s t : T) (turns : List Turn) (waiting left : ℕ) → Underway a b l m s t turns waiting → TurnEnded seen may_leave moment left_since faults sent given link_faults w.me waiting left b c m n → Underway a c l n s t turns left
-  ended link_faults a b c l m n s t turns waiting left under (inl commit) = subst (λ (k : ℕ). Underway a c l n s t turns k) (sym commit.1) (committed link_faults a b c l m n s t turns waiting under commit.0)
-  ended link_faults a b c l m n s t turns waiting left under (inr same) =
+  pub ended : (link_faults : L → ℕ) (a b c : Server D) (l m n : L) (s t : T) (turns : List Turn) (waiting left : ℕ) → 1 ≤ waiting → Underway a b l m s t turns waiting → TurnEnded seen may_leave moment left_since faults sent given link_faults w.me waiting left b c m n → Underway a c l n s t turns left
+  ended link_faults a b c l m n s t turns waiting left some under (inl commit) = subst (λ (k : ℕ). Underway a c l n s t turns k) (sym commit.1) (committed link_faults a b c l m n s t turns waiting some under commit.0)
+  ended link_faults a b c l m n s t turns waiting left some under (inr same) =
       subst (λ (k : ℕ). Underway a c l n s t turns k) (sym same.2)
       (subst (λ (k : L). Underway a c l k s t turns waiting) (sym same.1) (subst (λ (k : Server D). Underway a k l m s t turns waiting) (sym same.0) under))
 

@@ -1,5 +1,5 @@
 -- The faults with which a peer ends, and their causes.
-use Rattle.std.specs.Prelude.{◌≡◌, ◌⊎◌, ℕ, ◌-◌, ◌^◌, List, [], ◌∷◌, ◌++◌, codes, Option, Some, Err}
+use Rattle.std.specs.Prelude.{◌≡◌, ◌⊎◌, ◌<◌, ℕ, ◌+◌, ◌-◌, ◌^◌, List, [], ◌∷◌, ◌++◌, codes, Option, Some, Err}
 use Rattle.ens_base.specs.Causes.{Rose}
 use Rattle.ens_base.specs.declared.status.Status.{Status}
 use Rattle.ens_base.specs.declared.status.Status.TheVariants as statuses
@@ -7,11 +7,13 @@ use Rattle.environment.specs.declared.errors.LinkError.{LinkError}
 use Rattle.environment.specs.declared.errors.LinkError.TheVariants as links
 use Rattle.environment.specs.declared.errors.StoreError.{StoreError}
 use Rattle.environment.specs.declared.errors.StoreError.TheVariants as stores
-use Rattle.fact_store.specs.Files.{file_kept, file_serial}
+use Rattle.fact_store.specs.Files.{IsSpent, file_kept}
+use Rattle.fact_store.specs.Keeping.{file_fact}
 use Rattle.fact_store.specs.declared.error.KeepError.{KeepError}
 use Rattle.fact_store.specs.declared.error.KeepError.TheVariants as keeps
 use Rattle.fact_store.specs.declared.file.FactFile.{FactFile}
 use Rattle.stored_formats.specs.declared.fact_error.FactError.{FactError}
+use Rattle.slot_disk.specs.Slots.{current, last_serial}
 use Rattle.step_plans.specs.declared.error.PeerError.{PeerError}
 use Rattle.step_plans.specs.declared.error.PeerError.TheVariants as errors
 use Rattle.peer_server.specs.declared.disks.Disks.{Disks}
@@ -60,13 +62,23 @@ abbrev pub DiskRose : {D : Type 0} → (D → ℕ) → Disks D → Disks D → T
 DiskRose faults old new =
     Between old.facts new.facts (λ d e. Rose (faults d) (faults e)) ⊎ (Between old.nodes new.nodes (λ d e. Rose (faults d) (faults e)) ⊎ Between old.objects new.objects (λ d e. Rose (faults d) (faults e)))
 
--- the file of facts holds a record that is no fact, or it has its last serial number
-abbrev pub IsUseless : {D : Type 0} → FactFile D → Type 0
-IsUseless f = ((why : FactError) × (file_kept f ≡ Some (Err why))) ⊎ (file_serial f ≡ 2 ^ 64 - 1)
+-- why the stores of a peer stopped its start: a disk failed, or the file of facts holds a record that is no
+-- fact
+abbrev pub IsStartCause : {D : Type 0} → (D → ℕ) → Disks D → Disks D → FactFile D → Type 0
+IsStartCause faults old new file = DiskRose faults old new ⊎ ((why : FactError) × (file_kept file ≡ Some (Err why)))
 
--- why the stores of a peer failed
-abbrev pub IsStoreCause : {D : Type 0} → (D → ℕ) → Disks D → Disks D → FactFile D → Type 0
-IsStoreCause faults old new facts = DiskRose faults old new ⊎ IsUseless facts
+-- why the stores of a peer failed after its start: a disk failed, or a save met the last serial number of the
+-- file of facts
+abbrev pub IsStoreCause : {D : Type 0} → (D → ℕ) → Disks D → Disks D → (before after : FactFile D) → Type 0
+IsStoreCause faults old new before after = DiskRose faults old new ⊎ IsSpent before after
+
+-- A disk of facts tells its bytes. They hold a fact, or no record, and so many saves do not reach the last
+-- serial number.
+pub record HasRoom {D : Type 0} (seen : D → Option (List ℕ)) (saves : ℕ) (disk : D) : Type 0 where
+  pub bytes : List ℕ
+  pub told : seen disk ≡ Some bytes
+  pub fact : (why : FactError) → ¬ (file_fact bytes ≡ Some (Err why))
+  pub room : last_serial (current bytes) + saves < 2 ^ 64 - 1
 
 -- why a peer ended with this fault, for one of its stores and one of its link; memory may run out at
 -- any time

@@ -1,5 +1,5 @@
 -- What a peer did in its turns and in the commits between them.
-use Rattle.std.specs.Prelude.{◌≡◌, ◌⊎◌, ◌≤◌, ◌*◌, ℕ, Bool, List, [], ◌++◌, length, All, Option, Some, Ok}
+use Rattle.std.specs.Prelude.{◌≡◌, ◌⊎◌, ◌≤◌, ◌+◌, ◌*◌, ℕ, Bool, List, [], ◌++◌, length, All, Option, Some, Ok}
 use Rattle.ens_base.specs.declared.peer_words.PeerWords.{PeerWords}
 use Rattle.ens_base.specs.declared.status.Status.{Status}
 use Rattle.ens_base.specs.declared.status.Status.TheVariants as statuses
@@ -57,12 +57,13 @@ module _ {D L T : Type 0} (seen : D → Option (List ℕ)) (may_leave : D → Li
     pub newest : file_kept b.facts ≡ Some (Ok (saved_by b.peer.machine.state))
     pub none : b.unsent.items ≡ []
 
-  -- These turns were made, and then a fault came, at this place. The steps that are not durable are those of
-  -- at most 32 turns.
+  -- These turns were made, and then a fault came, at this place. At most 64 steps are not durable. At most one
+  -- fact was committed in each turn, and one after the last.
   pub record BrokeAt (status : Status) (a b : Server D) (link link_after : L) (s t : T) (turns : List Turn) (place : Place) : Type 0 where
     pub broke : TurnsBroke (disks_do seen faults) (disks_refuse seen faults) (posted sent w.me) (looked given) coming w status (point a link) (point b link_after) s t turns place
     pub file : FactFile D
     pub durable : Durable seen may_leave moment left_since faults w.me a.peer.machine.state (a.peer.machine.stores, record {}) broke.broke.took.deeds a.facts file
     pub few : length durable.late ≤ 2 * 32
+    pub saves : length durable.facts ≤ length turns + 1
     pub sends : SentUntil place status (sent link) (sent link_after) (frames_in w.me durable.kept)
     pub end : FileEnds place status (saved_by broke.broke.between.state) file b.facts

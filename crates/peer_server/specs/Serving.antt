@@ -14,14 +14,14 @@ use Rattle.stored_formats.specs.declared.saved.SavedFact.{SavedFact}
 use Rattle.peer_state.specs.Moves.{saved_by}
 use Rattle.peer_state.specs.declared.state.State.{State}
 use Rattle.slot_disk.specs.Crash.{Told}
-use Rattle.peer_turns.specs.Deeds.{Deed, Did, frames_in}
+use Rattle.peer_turns.specs.Deeds.{Deed, frames_in}
 use Rattle.peer_turns.specs.Going.{Point}
 use Rattle.peer_turns.specs.Turns.{Turn, ignored_in, taken_in}
 use Rattle.peer_server.specs.DiskPeers.{KeepsNodes, KeepsObjects, Of, OnDisks, disks_do, disks_refuse, disks_under}
 use Rattle.peer_server.specs.Faults.{IsCause, IsStoreCause, fault_text}
 use Rattle.peer_server.specs.Commits.{IsFactOfSome}
 use Rattle.peer_server.specs.Lines.{Line, looked, posted}
-use Rattle.peer_server.specs.Rounds.{SentUntil}
+use Rattle.peer_server.specs.Rounds.{Durable, FileEnds, SentUntil}
 use Rattle.peer_server.specs.Starting.{Began, FactsLeft, Refused}
 use Rattle.peer_server.specs.Turning.{Place, TurnsBroke, TurnsMade, begun_at}
 use Rattle.peer_server.specs.declared.disks.Disks.{Disks}
@@ -72,10 +72,11 @@ module _ {D L T : Type 0} (seen : D → Option (List ℕ)) (may_leave : D → Li
   IsDurable kept z found now = ((kept ≡ []) × (now ≡ found)) ⊎ (now ≡ Some (Ok (saved_by z)))
 
   -- The peer started, and after these turns a fault came, at this place. The steps until then are those that
-  -- are `kept` and those that came too `late`, in at most 32 turns. What the first put out was sent, or a
-  -- prefix of it if the fault came while it was sent; and nothing else was. A crash of the disk of the facts
-  -- leaves the fact of the state after these, or that after all steps, whose save failed. At any moment until
-  -- then it left the fact that the peer found, or that of its state after some of its steps.
+  -- are durable and at most 64 that came too late. At most one fact was committed in each turn, and one after
+  -- the last; then `file` was the file of facts, and nothing but a save that failed changed it. What the durable
+  -- steps put out was sent, or a prefix of it if the fault came while it was sent; and nothing else was. A crash of
+  -- the disk of the facts leaves the fact of the state after these, or that after all steps, whose save failed. At
+  -- any moment until then it left the fact that the peer found, or that of its state after some of its steps.
   pub record Interrupted (status : Status) (disks disks_after : Disks D) (link link_after : L) (ticker ticker_after : T) (turns : List Turn) (place : Place) : Type 0 where
     pub fewer : length turns + begun_at place ≤ w.turns
     pub first : Point (OnDisks D) (Line L)
@@ -87,16 +88,14 @@ module _ {D L T : Type 0} (seen : D → Option (List ℕ)) (may_leave : D → Li
     pub broke : TurnsBroke (disks_do seen faults) (disks_refuse seen faults) (posted sent w.me) (looked given) coming w status first end ticker ticker_after turns place
     pub link_end : end.link.link ≡ link_after
     pub disks_end : disks_after ≡ disks_under end.stores.0 end_file
-    pub kept : List Deed
-    pub late : List Deed
-    pub few : length late ≤ 2 * 32
-    pub steps : broke.broke.took.deeds ≡ kept ++ late
-    pub state : State
-    pub stores : OnDisks D
-    pub reached : Did (disks_do seen faults) (disks_refuse seen faults) w.me first.state first.stores kept state stores
-    pub sends : SentUntil place status (sent link) (sent link_after) (frames_in w.me kept)
-    pub facts : FactsLeft seen may_leave moment left_since faults disks end_file.slots.disk (λ found now. IsDurable kept state found now ⊎ (now ≡ Some (Ok (saved_by broke.broke.between.state)))) (IsFoundOrOfSome first.state first.stores broke.broke.took.deeds)
-    pub cause : IsCause (IsStoreCause faults disks disks_after end_file) (Rose (link_faults link) (link_faults link_after)) status
+    pub file : FactFile D
+    pub durable : Durable seen may_leave moment left_since faults w.me first.state first.stores broke.broke.took.deeds first_file file
+    pub few : length durable.late ≤ 2 * 32
+    pub saves : length durable.facts ≤ length turns + 1
+    pub file_end : FileEnds seen may_leave moment left_since faults sent given coming w place status (saved_by broke.broke.between.state) file end_file
+    pub sends : SentUntil place status (sent link) (sent link_after) (frames_in w.me durable.kept)
+    pub facts : FactsLeft seen may_leave moment left_since faults disks end_file.slots.disk (λ found now. IsDurable durable.kept durable.state found now ⊎ (now ≡ Some (Ok (saved_by broke.broke.between.state)))) (IsFoundOrOfSome first.state first.stores broke.broke.took.deeds)
+    pub cause : IsCause (IsStoreCause faults disks disks_after file end_file) (Rose (link_faults link) (link_faults link_after)) status
 
   -- the peer came to a fault, in its turns or before the first of them
   abbrev pub Failed : Status → Disks D → Disks D → L → L → T → T → Type 0

@@ -7,7 +7,7 @@ use Rattle.disk_stores.specs.NodeMaps.{nodes_of}
 use Rattle.ens_base.specs.Causes.{Rose}
 use Rattle.ens_base.specs.declared.peer_words.PeerWords.{PeerWords}
 use Rattle.ens_base.specs.declared.status.Status.{Status}
-use Rattle.fact_store.specs.Files.{file_kept}
+use Rattle.fact_store.specs.Files.{file_kept, file_serial}
 use Rattle.fact_store.specs.Keeping.{file_fact}
 use Rattle.stored_formats.specs.declared.saved.SavedFact.{SavedFact}
 use Rattle.fact_store.specs.Held.{held_kept}
@@ -18,10 +18,11 @@ use Rattle.peer_state.specs.declared.state.Mode.{Mode}
 use Rattle.peer_state.specs.declared.state.State.{State}
 use Rattle.slot_disk.specs.Crash.{LeavesOnly, SeenIn, Told}
 use Rattle.slot_disk.specs.SlotFiles.{IsAtRest}
+use Rattle.slot_disk.specs.Slots.{current, last_serial}
 use Rattle.step_plans.specs.Plans.{Finished, Runs, nothing}
 use Rattle.tree_node.specs.declared.version.TreeVersion.TheVariants.{Two}
 use Rattle.peer_server.specs.DiskPeers.{Of, OnDisks, disks_do, disks_refuse, disks_under}
-use Rattle.peer_server.specs.Faults.{Between, DiskRose, IsCause, IsStoreCause}
+use Rattle.peer_server.specs.Faults.{Between, DiskRose, IsCause, IsStartCause}
 use Rattle.peer_server.specs.Commits.{LeavesFacts}
 use Rattle.peer_server.specs.Turning.{RanInto}
 use Rattle.peer_server.specs.declared.disks.Disks.{Disks}
@@ -53,6 +54,7 @@ module _ {D : Type 0} (seen : D → Option (List ℕ)) (may_leave : D → List �
   -- what it might have left before. The root of the tree is not read yet.
   pub record Opened (disks : Disks D) (s : OnDisks D) (file : FactFile D) : Type 0 where
     pub facts : Of disks.facts (λ d. Told (seen d) (λ bytes. IsAtRest seen may_leave file.slots × (file_kept file ≡ file_fact bytes)) × (faults file.slots.disk ≡ faults d))
+    pub serial : Of disks.facts (λ d. Told (seen d) (λ bytes. file_serial file ≡ last_serial (current bytes)))
     pub moments : Of disks.facts (λ d. LeavesOnly moment left_since d file.slots.disk (may_leave d))
     pub held : held_kept s.0.facts ≡ file_kept file
     pub nodes : Of disks.nodes (λ d. Told (seen d) (λ bytes. HoldsNodes seen s.0.tree.store (nodes_of bytes)) × (faults s.0.tree.store.log.file.disk ≡ faults d))
@@ -92,7 +94,7 @@ module _ {D : Type 0} (seen : D → Option (List ℕ)) (may_leave : D → List �
     pub stops : RanInto (disks_do seen faults) (disks_refuse seen faults) status (start_of served_mode w.view) first end
     pub disks_end : disks_after ≡ disks_under end.0 file
     pub facts : FactsLeft disks file.slots.disk (λ found now. now ≡ found) (λ found now. now ≡ found)
-    pub cause : IsCause (IsStoreCause faults disks disks_after file) ⊥ status
+    pub cause : IsCause (IsStartCause faults disks disks_after file) ⊥ status
 
   -- the peer made no turn
   abbrev pub Refused : PeerWords → Status → Disks D → Disks D → Type 0

@@ -99,8 +99,8 @@ fn open<D: Disk>(
 ///
 /// # Errors
 ///
-/// `Store` only if a fault of a disk was counted, the file of facts holds a record that is no fact, or
-/// it has its last serial number; `Memory` when out of memory. The disks are returned.
+/// `Store` only if a fault of a disk was counted, or the file of facts holds a record that is no fact;
+/// `Memory` when out of memory. The disks are returned.
 pub(crate) fn start<D: Disk, R: Threads + Sync>(
     rt: &R,
     alloc: Global,

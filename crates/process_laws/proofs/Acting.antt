@@ -3,13 +3,14 @@ use Rattle.std.proofs.Common.{◌≡◌, ◌⊎◌, ◌≤◌, ◌++◌, ℕ, Bo
 use Rattle.std.proofs.lemmas.Bool.{eqb-true, eqb-false}
 use Rattle.std.proofs.lemmas.Option.{none-some}
 use Rattle.process_laws.proofs.Running.{run_as_maps}
-use Rattle.process_laws.specs.Memory.{StandsFor, StandsOpen, RunsInMemory, RunAsMaps}
+use Rattle.process_laws.specs.Memory.{StandsFor, StandsOpen, RunsInMemory, RunAsMaps, held_in}
 use Rattle.ens_base.specs.Lists.{◌∈◌}
 use Rattle.ens_base.specs.PeerSet.{holds}
+use Rattle.environment.specs.Maps.{Entries}
 use Rattle.process_laws.proofs.RealTime.{answers_append}
 use Rattle.stored_formats.specs.declared.saved.SavedFact.{SavedFact}
-use Rattle.process_laws.specs.Moments.{Found, stores_found, down_on, after, answers_in}
-use Rattle.process_laws.specs.Premises.{IsOneProcess, FactSurvives, IsFromFrames, IsRunning, IsDown, kept_by, node_of}
+use Rattle.process_laws.specs.Moments.{Found, stores_found, down_on, with_contents, after, answers_in}
+use Rattle.process_laws.specs.Premises.{IsOneProcess, FactSurvives, IsWithinLimits, IsRunning, IsDown, kept_by, node_of}
 use Rattle.peer_spec.proofs.Grammar.{those_at}
 use Rattle.peer_spec.specs.Drives.{step_of}
 use Rattle.peer_spec.specs.Starts.{start_of}
@@ -26,17 +27,17 @@ use Rattle.step_plans.specs.Plans.{Finished, Runs, nothing}
 use Rattle.step_plans.specs.declared.error.PeerError.{PeerError}
 use Rattle.tree_node.specs.declared.version.TreeVersion.{TreeVersion}
 use Rattle.tree_node.specs.declared.version.TreeVersion.TheVariants.{Two}
-use Rattle.peer_turns.specs.Deeds.{Deed, Did, events_in}
+use Rattle.peer_turns.specs.Deeds.{Deed, events_in}
 use Rattle.world_spec.proofs.Growth.{sent_after}
 use Rattle.world_spec.specs.Held.{HeldStores}
 use Rattle.world_spec.specs.HeldRuns.{Ended}
-use Rattle.world_spec.specs.Nodes.{Node, Up, Down, Taken, taken_of, started, stopped}
+use Rattle.world_spec.specs.Nodes.{Node, Up, Down, Taken, over_stores, taken_of, started, stopped}
 use Rattle.world_spec.specs.Runs.{Run, next_event, place_of, frame_from, printed_by, sealing_first, with_taken, stepped_at, stepped, changed_at, changed, start_strings, hashing, mode_at, with_start}
 use Rattle.world_stores.specs.Facts.{kept_of}
-use Rattle.process_laws.specs.Acts.{Act, Begins, Does, Ends, Life, actor, and_deeds, answers_at, frames_by, later_acts, moment_of, noted_by, own_acts}
-use Rattle.process_laws.specs.Joined.{fact_on_disk}
-use Rattle.process_laws.specs.Lives.{AreLater}
-use Rattle.process_laws.proofs.Events.{KeepsLimits, from_frames, keeps_limits}
+use Rattle.process_laws.specs.Acts.{Act, Begins, Does, Spoils, Ends, Life, Spoil, Stage, Step, actor, and_stages, answers_at, deeds_in, frames_by, later_acts, moment_of, noted_by, own_acts}
+use Rattle.process_laws.specs.Joined.{AreSpoiled, fact_on_disk}
+use Rattle.process_laws.specs.Lives.{AreLater, Leads}
+use Rattle.process_laws.proofs.Events.{KeepsLimits, keeps_limits, within_limits}
 use Rattle.process_laws.proofs.Outputs.{answers_printed}
 use Rattle.process_laws.proofs.Places.{own_head, set_get, set_other, set_twice}
 
@@ -59,28 +60,31 @@ module _ {D : Type 0} (seen : D → Option (List ℕ)) (faults : D → ℕ) (pee
   refuses = disks_refuse seen faults
 
   abbrev Later : ℕ → Option SavedFact → List Life → Type 0
-  Later p fact lives = AreLater does refuses (StandsFor seen) fact_on_disk view p (kept_of fact) lives
+  Later p fact lives = AreLater does refuses (AreSpoiled seen) (StandsFor seen) fact_on_disk view p (kept_of fact) lives
 
   maps : RunAsMaps seen faults
   maps = run_as_maps seen faults
 
   -- ## Where a peer is on the way through its acts
 
-  -- its process runs: it has these steps to take, and then it is cut off, and these lives follow
+  abbrev Led : ℕ → State → OnDisks D → List Stage → State → OnDisks D → Type 0
+  Led p x s stages y t = Leads does refuses (AreSpoiled seen) (StandsFor seen) fact_on_disk view p x s stages y t
+
+  -- its process runs: it has these stages to go through, and then it is cut off, and these lives follow
   pub record Running (p : ℕ) (node : Option Node) (own : List Act) : Type 0 where
     pub state : State
     pub disks : OnDisks D
     pub stores : HeldStores
     pub is : node ≡ Some (Up state stores)
     pub stands : StandsOpen seen disks stores
-    pub deeds : List Deed
+    pub stages : List Stage
     pub last : State
     pub left : OnDisks D
-    pub did : Did does refuses p state disks deeds last left
-    pub keeps : (event : Event) → event ∈ events_in deeds → KeepsLimits event
+    pub leads : Led p state disks stages last left
+    pub keeps : (event : Event) → event ∈ events_in (deeds_in stages) → KeepsLimits event
     pub later : List Life
-    pub lives : AreLater does refuses (StandsFor seen) fact_on_disk view p (fact_on_disk left) later
-    pub acts : own ≡ and_deeds p deeds (later_acts p later)
+    pub lives : AreLater does refuses (AreSpoiled seen) (StandsFor seen) fact_on_disk view p (fact_on_disk left) later
+    pub acts : own ≡ and_stages p stages (later_acts p later)
 
   -- no process of the peer runs, and these lives follow
   pub record Resting (p : ℕ) (node : Option Node) (own : List Act) : Type 0 where
@@ -104,7 +108,7 @@ module _ {D : Type 0} (seen : D → Option (List ℕ)) (faults : D → ℕ) (pee
   pub record Goes (a : Act) (acts : List Act) (w : Run) : Type 0 where
     pub one : IsOneProcess w (moment_of a)
     pub fact : FactSurvives w (moment_of a)
-    pub keeps : IsFromFrames w (moment_of a)
+    pub keeps : IsWithinLimits w (moment_of a)
     pub sent : (after (moment_of a) w).mail.sent ≡ w.mail.sent ++ frames_by a
     pub answers : answers_in (after (moment_of a) w).printed ≡ answers_in w.printed ++ answers_at (next_event w.events) a
     pub notes : (after (moment_of a) w).notes ≡ w.notes ++ noted_by a
@@ -131,7 +135,7 @@ module _ {D : Type 0} (seen : D → Option (List ℕ)) (faults : D → ℕ) (pee
   does_go p d acts w among before x h at s t z stands ran keeps on = record {
     one = subst IsRunning (sym at) tt;
     fact = tt;
-    keeps = from_frames w p d.event keeps;
+    keeps = within_limits w p d.event keeps;
     sent = ap (λ (v : Run). v.mail.sent) step_is ∙ sent_after (map (frame_from p) d.out.sends) w.mail;
     answers = ap (λ (v : Run). answers_in v.printed) step_is ∙ answers_append w.printed (printed_by (next_event w.events) p d.out) ∙ ap (λ (more : List Answer). answers_in w.printed ++ more) (answers_printed (next_event w.events) p d.out);
     notes = ap (λ (v : Run). v.notes) step_is;
@@ -171,6 +175,38 @@ module _ {D : Type 0} (seen : D → Option (List ℕ)) (faults : D → ℕ) (pee
     where
       end_is : changed p stopped w ≡ record w { nodes = slice_set w.nodes (place_of p) (Down h) }
       end_is = ap (λ (o : Option Node). changed_at o p stopped w) at
+
+  -- disks whose nodes and objects became others
+  spoiled_stand : (s : OnDisks D) (nodes objects : Entries) (t : OnDisks D) (h : HeldStores) → AreSpoiled seen s nodes objects t → StandsOpen seen s h → StandsOpen seen t (with_contents nodes objects h)
+  spoiled_stand s nodes objects t h spoiled stands = record {
+    stands = record {
+      objects = spoiled.objects_held;
+      nodes = spoiled.nodes_held (held_in h.tree.store) stands.stands.nodes;
+      fact = spoiled.fact ∙ stands.stands.fact;
+      none = record { facts = stands.stands.none.facts; tree = stands.stands.none.tree; backend = stands.stands.none.backend };
+    };
+    root = spoiled.root ∙ stands.root;
+    version = spoiled.version ∙ stands.version;
+  }
+
+  spoils_go : (p : ℕ) (nodes objects : Entries) (acts : List Act) (w : Run) → IsAmong peers p → IsBefore w (Spoils p nodes objects ∷ acts) → (x : State) (h : HeldStores) → node_of w p ≡ Some (Up x h) → IsOn p (Some (Up x (with_contents nodes objects h))) (own_acts p acts) → Goes (Spoils p nodes objects) acts w
+  spoils_go p nodes objects acts w among before x h at on = record {
+    one = subst IsRunning (sym at) tt;
+    fact = tt;
+    keeps = tt;
+    sent = ap (λ (v : Run). v.mail.sent) spoil_is ∙ sym (append-nil w.mail.sent);
+    answers = ap (λ (v : Run). answers_in v.printed) spoil_is ∙ sym (append-nil (answers_in w.printed));
+    notes = ap (λ (v : Run). v.notes) spoil_is ∙ sym (append-nil w.notes);
+    on = subst (λ (v : Run). IsBefore (record v { events = next_event w.events }) acts) (sym spoil_is) (record {
+      opens = before.opens;
+      sealing = before.sealing;
+      tree = before.tree;
+      each = peers_on (Spoils p nodes objects) acts w.nodes (Up x h) (Up x (with_contents nodes objects h)) among at on before.each;
+    });
+  }
+    where
+      spoil_is : changed p (over_stores (with_contents nodes objects)) w ≡ record w { nodes = slice_set w.nodes (place_of p) (Up x (with_contents nodes objects h)) }
+      spoil_is = ap (λ (o : Option Node). changed_at o p (over_stores (with_contents nodes objects)) w) at
 
   -- the start of a later process
   begins_go : (p : ℕ) (found : Found) (acts : List Act) (w : Run) → IsAmong peers p → IsBefore w (Begins p found ∷ acts) → (h : HeldStores) → node_of w p ≡ Some (Down h) → found.fact ≡ h.facts.kept → (s t : OnDisks D) (z : State) → StandsFor seen s (stores_found found)
@@ -238,33 +274,51 @@ module _ {D : Type 0} (seen : D → Option (List ℕ)) (faults : D → ℕ) (pee
       tail = cc both
 
   -- a process that runs
-  runs_on : (a : Act) (acts : List Act) (w : Run) → IsAmong peers (actor a) → IsBefore w (a ∷ acts) → (x : State) (disks : OnDisks D) (h : HeldStores) → node_of w (actor a) ≡ Some (Up x h) → StandsOpen seen disks h → (deeds : List Deed) (last : State) (left : OnDisks D)
-      → Did does refuses (actor a) x disks deeds last left → ((event : Event) → event ∈ events_in deeds → KeepsLimits event) → (later : List Life) → AreLater does refuses (StandsFor seen) fact_on_disk view (actor a) (fact_on_disk left) later
-      → own_acts (actor a) (a ∷ acts) ≡ and_deeds (actor a) deeds (later_acts (actor a) later) → Goes a acts w
-  runs_on a acts w among before x disks h at stands [] last left did keeps later lives own =
+  runs_on : (a : Act) (acts : List Act) (w : Run) → IsAmong peers (actor a) → IsBefore w (a ∷ acts) → (x : State) (disks : OnDisks D) (h : HeldStores) → node_of w (actor a) ≡ Some (Up x h) → StandsOpen seen disks h → (stages : List Stage) (last : State) (left : OnDisks D)
+      → Led (actor a) x disks stages last left → ((event : Event) → event ∈ events_in (deeds_in stages) → KeepsLimits event) → (later : List Life) → AreLater does refuses (AreSpoiled seen) (StandsFor seen) fact_on_disk view (actor a) (fact_on_disk left) later
+      → own_acts (actor a) (a ∷ acts) ≡ and_stages (actor a) stages (later_acts (actor a) later) → Goes a acts w
+  runs_on a acts w among before x disks h at stands [] last left leads keeps later lives own =
       as_next a (Ends (actor a)) acts (later_acts (actor a) later) w before own
       (λ here rest. ends_go (actor a) acts w among here x h at
       (inr (inr (record {
         stores = h;
         is = refl;
         later = later;
-        lives = subst (λ fact. AreLater does refuses (StandsFor seen) fact_on_disk view (actor a) fact later) (ap fact_on_disk did.1 ∙ stands.stands.fact) lives;
+        lives = subst (λ fact. AreLater does refuses (AreSpoiled seen) (StandsFor seen) fact_on_disk view (actor a) fact later) (ap fact_on_disk leads.1 ∙ stands.stands.fact) lives;
         acts = rest;
       }))))
-  runs_on a acts w among before x disks h at stands (d ∷ deeds) last left did keeps later lives own =
-      as_next a (Does (actor a) d) acts (and_deeds (actor a) deeds (later_acts (actor a) later)) w before own
-      (λ here rest. does_go (actor a) d acts w among here x h at disks did.1 did.0 stands did.2 (keeps d.event (inl refl))
+  runs_on a acts w among before x disks h at stands (Step d ∷ stages) last left leads keeps later lives own =
+      as_next a (Does (actor a) d) acts (and_stages (actor a) stages (later_acts (actor a) later)) w before own
+      (λ here rest. does_go (actor a) d acts w among here x h at disks leads.1 leads.0 stands leads.2 (keeps d.event (inl refl))
       (λ stores stands_open. inr (inl (record {
-        state = did.0;
-        disks = did.1;
+        state = leads.0;
+        disks = leads.1;
         stores = stores;
         is = refl;
         stands = stands_open;
-        deeds = deeds;
+        stages = stages;
         last = last;
         left = left;
-        did = did.3;
+        leads = leads.3;
         keeps = λ event here. keeps event (inr here);
+        later = later;
+        lives = lives;
+        acts = rest;
+      }))))
+  runs_on a acts w among before x disks h at stands (Spoil nodes objects ∷ stages) last left leads keeps later lives own =
+      as_next a (Spoils (actor a) nodes objects) acts (and_stages (actor a) stages (later_acts (actor a) later)) w before own
+      (λ here rest. spoils_go (actor a) nodes objects acts w among here x h at
+      (inr (inl (record {
+        state = x;
+        disks = leads.0;
+        stores = with_contents nodes objects h;
+        is = refl;
+        stands = spoiled_stand disks nodes objects leads.0 h leads.1 stands;
+        stages = stages;
+        last = last;
+        left = left;
+        leads = leads.2;
+        keeps = keeps;
         later = later;
         lives = lives;
         acts = rest;
@@ -277,7 +331,7 @@ module _ {D : Type 0} (seen : D → Option (List ℕ)) (faults : D → ℕ) (pee
       some_act : (b : Act) (rest : List Act) → b ∷ rest ≡ [] → ⊥
       some_act b rest is = cc
   rests_on a acts w among before h at (l ∷ later) lives own =
-      as_next a (Begins (actor a) l.found) acts (and_deeds (actor a) l.deeds (later_acts (actor a) later)) w before own
+      as_next a (Begins (actor a) l.found) acts (and_stages (actor a) l.stages (later_acts (actor a) later)) w before own
       (λ here rest. begins_go (actor a) l.found acts w among here h at (kept_same l.found.fact h.facts.kept lives.0) lives.1.opened lives.1.started lives.1.first lives.1.finds lives.1.starts
       (λ stores stands_open. inr (inl (record {
         state = lives.1.first;
@@ -285,10 +339,10 @@ module _ {D : Type 0} (seen : D → Option (List ℕ)) (faults : D → ℕ) (pee
         stores = stores;
         is = refl;
         stands = stands_open;
-        deeds = l.deeds;
+        stages = l.stages;
         last = lives.1.last;
         left = lives.1.left;
-        did = lives.1.did;
+        leads = lives.1.leads;
         keeps = λ event here. keeps_limits (actor a) event (lives.1.events event here);
         later = later;
         lives = lives.2;
@@ -304,5 +358,5 @@ module _ {D : Type 0} (seen : D → Option (List ℕ)) (faults : D → ℕ) (pee
         where
           rests_none : a ∷ own_acts (actor a) acts ≡ [] → Goes a acts w
           rests_none is = absurd cc
-      by (inr (inl r)) = runs_on a acts w among before r.state r.disks r.stores r.is r.stands r.deeds r.last r.left r.did r.keeps r.later r.lives r.acts
+      by (inr (inl r)) = runs_on a acts w among before r.state r.disks r.stores r.is r.stands r.stages r.last r.left r.leads r.keeps r.later r.lives r.acts
       by (inr (inr r)) = rests_on a acts w among before r.stores r.is r.later r.lives r.acts

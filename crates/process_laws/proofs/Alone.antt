@@ -22,14 +22,14 @@ use Rattle.wire_frames.specs.declared.error.FrameError.{FrameError}
 use Rattle.wire_frames.specs.declared.frame.Frame.{Frame}
 use Rattle.wire_frames.specs.declared.message.Message.{Message}
 use Rattle.wire_frames.specs.declared.message.Message.TheVariants as messages
-use Rattle.process_laws.specs.Acts.{Act, Begins, Does, Ends, Life, actor, acts_of, and_deeds, frames_by, later_acts, own_acts}
+use Rattle.process_laws.specs.Acts.{Act, Begins, Does, Spoils, Ends, Life, Spoil, Stage, Step, actor, acts_of, and_stages, deeds_in, frames_by, later_acts, own_acts, steps}
 use Rattle.process_laws.specs.Alone.{MeetAll, MeetBoth, Process, life_of}
-use Rattle.process_laws.specs.Joined.{ArePutOut, IsAmongSent, fact_on_disk}
+use Rattle.process_laws.specs.Joined.{ArePutOut, AreSpoiled, IsAmongSent, fact_on_disk}
 use Rattle.process_laws.specs.Lives.{AreLater, AreLives, FactRead, HasLived}
 use Rattle.process_laws.specs.JoinedServed.{MayBeJoined, found_in}
 use Rattle.process_laws.proofs.Acting.{kept_same}
 use Rattle.process_laws.proofs.LoneGroup.{is_one}
-use Rattle.process_laws.proofs.Serving.{events_of_some, served_join}
+use Rattle.process_laws.proofs.Serving.{deeds_of_steps, events_of_some, served_join}
 
 -- ## No message comes
 
@@ -76,22 +76,26 @@ module _ (w : PeerWords) (me : w.me ≡ 1) (peers : w.peers ≡ 1) where
 abbrev OwnDeeds : List Deed → Type 0
 OwnDeeds deeds = (event : Event) → event ∈ events_in deeds → IsOwn event
 
+own_lived : (deeds : List Deed) → OwnDeeds deeds → OwnDeeds (deeds_in (steps deeds))
+own_lived deeds = subst OwnDeeds (sym (deeds_of_steps deeds))
+
 abbrev OwnLives : List Life → Type 0
 OwnLives [] = Unit {0}
-OwnLives (l ∷ ls) = OwnDeeds l.deeds × OwnLives ls
+OwnLives (l ∷ ls) = OwnDeeds (deeds_in l.stages) × OwnLives ls
 
 -- all acts are those of the peer
-own_deeds : (deeds : List Deed) (rest : List Act) → own_acts 1 rest ≡ rest → own_acts 1 (and_deeds 1 deeds rest) ≡ and_deeds 1 deeds rest
-own_deeds [] rest same = ap (λ (acts : List Act). Ends 1 ∷ acts) same
-own_deeds (d ∷ deeds) rest same = ap (λ (acts : List Act). Does 1 d ∷ acts) (own_deeds deeds rest same)
+own_stages : (stages : List Stage) (rest : List Act) → own_acts 1 rest ≡ rest → own_acts 1 (and_stages 1 stages rest) ≡ and_stages 1 stages rest
+own_stages [] rest same = ap (λ (acts : List Act). Ends 1 ∷ acts) same
+own_stages (Step d ∷ stages) rest same = ap (λ (acts : List Act). Does 1 d ∷ acts) (own_stages stages rest same)
+own_stages (Spoil nodes objects ∷ stages) rest same = ap (λ (acts : List Act). Spoils 1 nodes objects ∷ acts) (own_stages stages rest same)
 
 own_later : (ls : List Life) → own_acts 1 (later_acts 1 ls) ≡ later_acts 1 ls
 own_later [] = refl
-own_later (l ∷ ls) = ap (λ (acts : List Act). Begins 1 l.found ∷ acts) (own_deeds l.deeds (later_acts 1 ls) (own_later ls))
+own_later (l ∷ ls) = ap (λ (acts : List Act). Begins 1 l.found ∷ acts) (own_stages l.stages (later_acts 1 ls) (own_later ls))
 
 own_all : (lives : List Life) → own_acts 1 (acts_of 1 lives) ≡ acts_of 1 lives
 own_all [] = refl
-own_all (l ∷ ls) = own_deeds l.deeds (later_acts 1 ls) (own_later ls)
+own_all (l ∷ ls) = own_stages l.stages (later_acts 1 ls) (own_later ls)
 
 abbrev AreOfOne : List Act → Type 0
 AreOfOne acts = (a : Act) → a ∈ acts → IsAmong 1 (actor a)
@@ -99,46 +103,48 @@ AreOfOne acts = (a : Act) → a ∈ acts → IsAmong 1 (actor a)
 by_one : (a b : Act) → actor b ≡ 1 → a ≡ b → IsAmong 1 (actor a)
 by_one a b one is = subst (IsAmong 1) (sym (ap actor is ∙ one)) (record { first = lit≤ tt; last = lit≤ tt })
 
-deeds_of_one : (deeds : List Deed) (rest : List Act) → AreOfOne rest → AreOfOne (and_deeds 1 deeds rest)
-deeds_of_one [] rest all a (inl is) = by_one a (Ends 1) refl is
-deeds_of_one [] rest all a (inr at) = all a at
-deeds_of_one (d ∷ deeds) rest all a (inl is) = by_one a (Does 1 d) refl is
-deeds_of_one (d ∷ deeds) rest all a (inr at) = deeds_of_one deeds rest all a at
+stages_of_one : (stages : List Stage) (rest : List Act) → AreOfOne rest → AreOfOne (and_stages 1 stages rest)
+stages_of_one [] rest all a (inl is) = by_one a (Ends 1) refl is
+stages_of_one [] rest all a (inr at) = all a at
+stages_of_one (Step d ∷ stages) rest all a (inl is) = by_one a (Does 1 d) refl is
+stages_of_one (Spoil nodes objects ∷ stages) rest all a (inl is) = by_one a (Spoils 1 nodes objects) refl is
+stages_of_one (s ∷ stages) rest all a (inr at) = stages_of_one stages rest all a at
 
 later_of_one : (ls : List Life) → AreOfOne (later_acts 1 ls)
 later_of_one [] a at = absurd at
 later_of_one (l ∷ ls) a (inl is) = by_one a (Begins 1 l.found) refl is
-later_of_one (l ∷ ls) a (inr at) = deeds_of_one l.deeds (later_acts 1 ls) (later_of_one ls) a at
+later_of_one (l ∷ ls) a (inr at) = stages_of_one l.stages (later_acts 1 ls) (later_of_one ls) a at
 
 all_of_one : (lives : List Life) → AreOfOne (acts_of 1 lives)
 all_of_one [] a at = absurd at
-all_of_one (l ∷ ls) a at = deeds_of_one l.deeds (later_acts 1 ls) (later_of_one ls) a at
+all_of_one (l ∷ ls) a at = stages_of_one l.stages (later_acts 1 ls) (later_of_one ls) a at
 
 -- and no message comes to them
-deeds_put_out : (deeds : List Deed) (rest : List Act) (sent : List Frame) → OwnDeeds deeds → ((more : List Frame) → ArePutOut more rest) → ArePutOut sent (and_deeds 1 deeds rest)
-deeds_put_out [] rest sent own after_it = (tt, after_it (sent ++ frames_by (Ends 1)))
-deeds_put_out (d ∷ deeds) rest sent own after_it = (own d.event (inl refl) sent, deeds_put_out deeds rest (sent ++ frames_by (Does 1 d)) (λ event at. own event (inr at)) after_it)
+stages_put_out : (stages : List Stage) (rest : List Act) (sent : List Frame) → OwnDeeds (deeds_in stages) → ((more : List Frame) → ArePutOut more rest) → ArePutOut sent (and_stages 1 stages rest)
+stages_put_out [] rest sent own after_it = (tt, after_it (sent ++ frames_by (Ends 1)))
+stages_put_out (Step d ∷ stages) rest sent own after_it = (own d.event (inl refl) sent, stages_put_out stages rest (sent ++ frames_by (Does 1 d)) (λ event at. own event (inr at)) after_it)
+stages_put_out (Spoil nodes objects ∷ stages) rest sent own after_it = (tt, stages_put_out stages rest (sent ++ frames_by (Spoils 1 nodes objects)) own after_it)
 
 later_put_out : (ls : List Life) (sent : List Frame) → OwnLives ls → ArePutOut sent (later_acts 1 ls)
 later_put_out [] sent own = tt
-later_put_out (l ∷ ls) sent own = (tt, deeds_put_out l.deeds (later_acts 1 ls) (sent ++ frames_by (Begins 1 l.found)) own.0 (λ more. later_put_out ls more own.1))
+later_put_out (l ∷ ls) sent own = (tt, stages_put_out l.stages (later_acts 1 ls) (sent ++ frames_by (Begins 1 l.found)) own.0 (λ more. later_put_out ls more own.1))
 
 all_put_out : (lives : List Life) → OwnLives lives → ArePutOut [] (acts_of 1 lives)
 all_put_out [] own = tt
-all_put_out (l ∷ ls) own = deeds_put_out l.deeds (later_acts 1 ls) [] own.0 (λ more. later_put_out ls more own.1)
+all_put_out (l ∷ ls) own = stages_put_out l.stages (later_acts 1 ls) [] own.0 (λ more. later_put_out ls more own.1)
 
 -- ## On disks
 
 module _ {D L T : Type 0} (seen : D → Option (List ℕ)) (may_leave : D → List ℕ → Type 0) (moment : D → ℕ) (left_since : D → ℕ → List ℕ → Type 0) (faults : D → ℕ)
     (sent : L → Option (List (ℕ × List ℕ))) (given : L → Option (List (Option (List ℕ)))) (link_faults : L → ℕ) (coming : T → Option (ℕ → Bool)) where
   abbrev Lived : List ℕ → ℕ → Life → Type 0
-  Lived view p life = HasLived (disks_do seen faults) (disks_refuse seen faults) (StandsFor seen) fact_on_disk view p life
+  Lived view p life = HasLived (disks_do seen faults) (disks_refuse seen faults) (AreSpoiled seen) (StandsFor seen) fact_on_disk view p life
 
   abbrev Later : FactRead → List Life → Type 0
-  Later fact ls = AreLater (disks_do seen faults) (disks_refuse seen faults) (StandsFor seen) fact_on_disk (1 ∷ []) 1 fact ls
+  Later fact ls = AreLater (disks_do seen faults) (disks_refuse seen faults) (AreSpoiled seen) (StandsFor seen) fact_on_disk (1 ∷ []) 1 fact ls
 
   abbrev Lives : ℕ → List Life → Type 0
-  Lives p lives = AreLives (disks_do seen faults) (disks_refuse seen faults) (StandsFor seen) fact_on_disk (1 ∷ []) p lives
+  Lives p lives = AreLives (disks_do seen faults) (disks_refuse seen faults) (AreSpoiled seen) (StandsFor seen) fact_on_disk (1 ∷ []) p lives
 
   abbrev One : Type 0
   One = Process seen may_leave moment left_since faults sent given link_faults coming
@@ -155,6 +161,7 @@ module _ {D L T : Type 0} (seen : D → Option (List ℕ)) (may_leave : D → Li
     few_peers = lit≤ tt;
     is_view = lone_view;
     few_acts = legal.few_acts;
+    few_calls = legal.few_calls;
     of_peers = all_of_one lives;
     lived = λ p among. subst (λ (q : ℕ). Lives q lives) (is_one p among) lived;
     in_order = λ p among. subst (λ (q : ℕ). own_acts q (acts_of 1 lives) ≡ acts_of q lives) (is_one p among) (own_all lives);
@@ -165,7 +172,7 @@ module _ {D L T : Type 0} (seen : D → Option (List ℕ)) (may_leave : D → Li
 
   -- a life that began without a fact, and those after it
   abbrev Follow : (deeds : List Deed) (nodes objects : List ℕ) (later : List Life) → List ℕ → ℕ → Option SavedFact → Type 0
-  Follow deeds nodes objects later view p fact = (lived : Lived view p (record { found = found_in fact nodes objects; deeds = deeds })) → Later (fact_on_disk lived.left) later → Lives 1 (record { found = found_in None nodes objects; deeds = deeds } ∷ later)
+  Follow deeds nodes objects later view p fact = (lived : Lived view p (record { found = found_in fact nodes objects; stages = steps deeds })) → Later (fact_on_disk lived.left) later → Lives 1 (record { found = found_in None nodes objects; stages = steps deeds } ∷ later)
 
   follow : (deeds : List Deed) (nodes objects : List ℕ) (later : List Life) (view : List ℕ) (p : ℕ) (fact : Option SavedFact) → view ≡ 1 ∷ [] → p ≡ 1 → fact ≡ None → Follow deeds nodes objects later view p fact
   follow deeds nodes objects later view p fact is_view is_one none =
@@ -188,7 +195,7 @@ module _ {D L T : Type 0} (seen : D → Option (List ℕ)) (may_leave : D → Li
   none_found s none = kept_same (joins s).fact None (sym (joins s).is ∙ none)
 
   pub once : (s : One) → file_fact s.facts ≡ None → MeetsAll (life s None s.served.kept ∷ [])
-  once s none = meet_all (life s None s.served.kept ∷ []) (follow s.served.kept s.nodes s.objects [] s.w.view s.w.me (joins s).fact s.view s.me (none_found s none) (joins s).lived tt) (own_kept s, tt)
+  once s none = meet_all (life s None s.served.kept ∷ []) (follow s.served.kept s.nodes s.objects [] s.w.view s.w.me (joins s).fact s.view s.me (none_found s none) (joins s).lived tt) (own_lived s.served.kept (own_kept s), tt)
 
   -- the second life, over the fact that was left
   second : (s t : One) (left : FactRead) → file_fact t.facts ≡ left → Later left (life t (joins t).fact t.served.kept ∷ [])
@@ -210,13 +217,13 @@ module _ {D L T : Type 0} (seen : D → Option (List ℕ)) (may_leave : D → Li
         steps = inl refl;
         fact = (joins t).fact;
         is = (joins t).is;
-        both = meet_all (life s None s.served.kept ∷ after) (follow s.served.kept s.nodes s.objects after s.w.view s.w.me (joins s).fact s.view s.me (none_found s none) (joins s).lived (second s t (fact_on_disk (joins s).lived.left) kept)) (own_kept s, (own_kept t, tt));
+        both = meet_all (life s None s.served.kept ∷ after) (follow s.served.kept s.nodes s.objects after s.w.view s.w.me (joins s).fact s.view s.me (none_found s none) (joins s).lived (second s t (fact_on_disk (joins s).lived.left) kept)) (own_lived s.served.kept (own_kept s), (own_lived t.served.kept (own_kept t), tt));
       })
       by (inr (inl whole)) = inl (record {
         deeds = s.served.on.life.deeds;
         steps = inr refl;
         fact = (joins t).fact;
         is = (joins t).is;
-        both = meet_all (life s None s.served.on.life.deeds ∷ after) (follow s.served.on.life.deeds s.nodes s.objects after s.w.view s.w.me (joins s).fact s.view s.me (none_found s none) (joins s).whole (second s t (fact_on_disk (joins s).whole.left) whole)) (own_steps s, (own_kept t, tt));
+        both = meet_all (life s None s.served.on.life.deeds ∷ after) (follow s.served.on.life.deeds s.nodes s.objects after s.w.view s.w.me (joins s).fact s.view s.me (none_found s none) (joins s).whole (second s t (fact_on_disk (joins s).whole.left) whole)) (own_lived s.served.on.life.deeds (own_steps s), (own_lived t.served.kept (own_kept t), tt));
       })
       by (inr (inr nothing)) = inr (once t (nothing.1 ∙ none))

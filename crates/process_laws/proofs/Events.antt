@@ -1,11 +1,12 @@
--- The event of a step that is taken on a tick, or on the bytes of a frame, keeps the limits of frames.
+-- The event of a step keeps the limits of frames, and is a request for a view alone.
 use Rattle.std.proofs.Common.{◌≡◌, ◌<◌, ◌^◌, ℕ, Bool, true, false, if◌then◌else◌, List, None, Some, Result, Ok, Err, refl, sym, subst, inl, inr}
 use Rattle.std.specs.Prelude.{◌==◌}
 use Rattle.std.proofs.lemmas.Option.{none-some, same_Some}
 use Rattle.ens_base.specs.Limits.{IsBytes, IsKey, IsCommand}
+use Rattle.ens_base.specs.View.{IsView}
 use Rattle.ens_base.specs.declared.peer_words.PeerWords.{PeerWords}
 use Rattle.process_laws.specs.Moments.{Takes}
-use Rattle.process_laws.specs.Premises.{IsFromFrames}
+use Rattle.process_laws.specs.Premises.{IsWithinLimits}
 use Rattle.peer_state.specs.declared.event.Event.{Event}
 use Rattle.peer_state.specs.declared.event.Event.TheVariants as events
 use Rattle.peer_turns.specs.Turns.{event_from, event_in, event_on, is_client, is_other_peer}
@@ -17,19 +18,19 @@ use Rattle.wire_frames.specs.declared.frame.Frame.{Frame}
 use Rattle.wire_frames.specs.declared.message.Message.{Message}
 use Rattle.wire_frames.specs.declared.message.Message.TheVariants as messages
 use Rattle.world_spec.specs.Runs.{Run}
-use Rattle.process_laws.specs.Lives.{IsTickOrBytes}
+use Rattle.process_laws.specs.Lives.{IsOccasion}
 
--- a call keeps the limits of a frame, and no frame asks for another view
+-- a call keeps the limits of a frame, and a peer is asked for a view
 abbrev pub KeepsLimits : Event → Type 0
 KeepsLimits (events.Call c) = (c.id < 2 ^ 64) × IsKey c.key × IsCommand c.command
-KeepsLimits (events.Change view) = ⊥
+KeepsLimits (events.Change view) = IsView view
 KeepsLimits event = Unit {0}
 
-pub from_frames : (w : Run) (p : ℕ) (event : Event) → KeepsLimits event → IsFromFrames w (Takes p event)
-from_frames w p (events.Call c) keeps = keeps
-from_frames w p (events.Deliver from message) keeps = tt
-from_frames w p events.Tick keeps = tt
-from_frames w p (events.Change view) keeps = keeps
+pub within_limits : (w : Run) (p : ℕ) (event : Event) → KeepsLimits event → IsWithinLimits w (Takes p event)
+within_limits w p (events.Call c) keeps = keeps
+within_limits w p (events.Deliver from message) keeps = tt
+within_limits w p events.Tick keeps = tt
+within_limits w p (events.Change view) keeps = keeps
 
 -- the event of a message, where this is it
 called : (client : Bool) (event given : Event) → (if client then Some given else None) ≡ Some event → KeepsLimits given → KeepsLimits event
@@ -52,6 +53,7 @@ of_bytes : (w : PeerWords) (bytes : List ℕ) (read : Result Frame FrameError) (
 of_bytes w bytes (Ok f) event fits was is = of_frame w f event (frame_found bytes (Ok f) fits was).0.message is
 of_bytes w bytes (Err e) event fits was is = absurd (none-some event is)
 
-pub keeps_limits : (p : ℕ) (event : Event) → IsTickOrBytes p event → KeepsLimits event
+pub keeps_limits : (p : ℕ) (event : Event) → IsOccasion p event → KeepsLimits event
 keeps_limits p event (inl tick) = subst KeepsLimits (sym tick) tt
-keeps_limits p event (inr came) = of_bytes came.0 came.1 (frame_of came.1) event came.3 refl came.4
+keeps_limits p event (inr (inl came)) = of_bytes came.0 came.1 (frame_of came.1) event came.3 refl came.4
+keeps_limits p event (inr (inr asked)) = subst KeepsLimits (sym asked.2) asked.1

@@ -8,7 +8,7 @@ use Rattle.process_laws.proofs.Groups.{group_runs, group_legal}
 use Rattle.process_laws.proofs.RealTime.{next_is}
 use Rattle.process_laws.specs.Laws.{IsRunOfProtocol}
 use Rattle.process_laws.specs.Moments.{Takes, after, answers_in, born_on, calls_of, opening_of, run_on, stores_found}
-use Rattle.process_laws.specs.Premises.{Always, IsOfPeers, IsOneProcess, FactSurvives, WasSent, IsFromFrames, node_of}
+use Rattle.process_laws.specs.Premises.{Always, IsOfPeers, IsOneProcess, FactSurvives, WasSent, IsWithinLimits, node_of}
 use Rattle.peer_spec.specs.Starts.{start_of}
 use Rattle.peer_server.specs.DiskPeers.{disks_do, disks_refuse}
 use Rattle.peer_server.specs.Starting.{served_mode}
@@ -25,8 +25,8 @@ use Rattle.wire_frames.specs.declared.frame.Frame.{Frame}
 use Rattle.world_spec.specs.HeldRuns.{Ended}
 use Rattle.world_spec.specs.Nodes.{Node, taken_of}
 use Rattle.world_spec.specs.Runs.{Run, next_event}
-use Rattle.process_laws.specs.Acts.{Act, Begins, Does, Ends, Execution, Life, acts_of, actor, answers_at, answers_from, first_found, frames_by, group_of, moment_of, notes_of, noted_by, own_acts, sent_by}
-use Rattle.process_laws.specs.Joined.{ArePutOut, AreOneGroup, AreOnDisks, IsAmongSent, IsLinearizable, WasPutOut, ProcessesAreOneGroup, ProcessesAreLinearizable, ProcessesKeepTime, ProcessesRefine, fact_on_disk}
+use Rattle.process_laws.specs.Acts.{Act, Begins, Does, Spoils, Ends, Execution, Life, acts_of, actor, answers_at, answers_from, first_found, frames_by, group_of, moment_of, notes_of, noted_by, own_acts, sent_by}
+use Rattle.process_laws.specs.Joined.{ArePutOut, AreOneGroup, AreOnDisks, AreSpoiled, IsAmongSent, IsLinearizable, WasPutOut, ProcessesAreOneGroup, ProcessesAreLinearizable, ProcessesKeepTime, ProcessesRefine, fact_on_disk}
 use Rattle.process_laws.specs.Lives.{AreLives}
 use Rattle.process_laws.proofs.Acting.{Goes, IsBefore, IsOn, goes}
 use Rattle.process_laws.proofs.Events.{keeps_limits}
@@ -45,6 +45,7 @@ sent_event w p (events.Change view) is = tt
 was_sent : (w : Run) (a : Act) → WasPutOut w.mail.sent a → WasSent w (moment_of a)
 was_sent w (Begins p found) is = tt
 was_sent w (Does p d) is = sent_event w p d.event is
+was_sent w (Spoils p nodes objects) is = tt
 was_sent w (Ends p) is = tt
 
 -- the premises hold of each of these acts, and the world puts out what they did; the first has the number after this one
@@ -53,7 +54,7 @@ record GoAll (acts : List Act) (w : Run) (number peers : ℕ) : Type 0 where
   one : Always IsOneProcess (map moment_of acts) w
   facts : Always FactSurvives (map moment_of acts) w
   messages : Always WasSent (map moment_of acts) w
-  keep : Always IsFromFrames (map moment_of acts) w
+  keep : Always IsWithinLimits (map moment_of acts) w
   sent : (run_on (map moment_of acts) w).mail.sent ≡ w.mail.sent ++ sent_by acts
   answers : answers_in (run_on (map moment_of acts) w).printed ≡ answers_in w.printed ++ answers_from (number + 1) acts
   notes : (run_on (map moment_of acts) w).notes ≡ w.notes ++ notes_of acts
@@ -80,7 +81,7 @@ module _ {D : Type 0} (seen : D → Option (List ℕ)) (faults : D → ℕ) wher
       notes = later.notes ∙ ap (λ (xs : List Note). xs ++ notes_of acts) here.notes ∙ append_assoc w.notes (noted_by a) (notes_of acts);
     }
 
-    go_all : (acts : List Act) (w : Run) (number : ℕ) (sent : List Frame) → w.events ≡ number → number + length acts < 2 ^ 64 - 1 → w.mail.sent ≡ sent → ((a : Act) → a ∈ acts → IsAmong peers (actor a)) → ArePutOut sent acts → Before w acts → GoAll acts w number peers
+    go_all : (acts : List Act) (w : Run) (number : ℕ) (sent : List Frame) → w.events ≡ number → number + length acts < 2 ^ 64 → w.mail.sent ≡ sent → ((a : Act) → a ∈ acts → IsAmong peers (actor a)) → ArePutOut sent acts → Before w acts → GoAll acts w number peers
     go_all [] w number sent at few mail among put before = record {
       of_peers = tt;
       one = tt;
@@ -97,16 +98,16 @@ module _ {D : Type 0} (seen : D → Option (List ℕ)) (faults : D → ℕ) wher
         and_all a acts w number next (among a (inl refl)) (subst (λ (fs : List Frame). WasPutOut fs a) (sym mail) put.0) here
         (go_all acts (after (moment_of a) w) (number + 1) (sent ++ frames_by a) next (rest number (length acts) few) (here.sent ∙ ap (λ (fs : List Frame). fs ++ frames_by a) mail) (λ b at. among b (inr at)) put.1 here.on)
       where
-        first : (n k : ℕ) → n + suc k < 2 ^ 64 - 1 → n < 2 ^ 64 - 1
+        first : (n k : ℕ) → n + suc k < 2 ^ 64 → n < 2 ^ 64 - 1
         first n k h = omega arith
 
-        rest : (n k : ℕ) → n + suc k < 2 ^ 64 - 1 → n + 1 + k < 2 ^ 64 - 1
+        rest : (n k : ℕ) → n + suc k < 2 ^ 64 → n + 1 + k < 2 ^ 64
         rest n k h = omega arith
 
     -- ## The opening
 
     abbrev Lives : ℕ → List Life → Type 0
-    Lives p lives = AreLives (disks_do seen faults) (disks_refuse seen faults) (StandsFor seen) fact_on_disk view p lives
+    Lives p lives = AreLives (disks_do seen faults) (disks_refuse seen faults) (AreSpoiled seen) (StandsFor seen) fact_on_disk view p lives
 
     -- the first process of a peer found no fact
     first_bare : (p : ℕ) (lives : List Life) → Lives p lives → (first_found lives).fact ≡ None
@@ -121,10 +122,10 @@ module _ {D : Type 0} (seen : D → Option (List ℕ)) (faults : D → ℕ) wher
       stores = so.left;
       is = at ∙ ap (λ (e : Ended State). let n : Option Node = Some (taken_of e).node in n) so.is;
       stands = so.stands;
-      deeds = l.deeds;
+      stages = l.stages;
       last = lived.1.last;
       left = lived.1.left;
-      did = lived.1.did;
+      leads = lived.1.leads;
       keeps = λ event here. keeps_limits p event (lived.1.events event here);
       later = later;
       lives = lived.2;
@@ -147,7 +148,7 @@ module _ {D : Type 0} (seen : D → Option (List ℕ)) (faults : D → ℕ) wher
     all : GoAll e.acts (opening_of (group_of e)) 0 e.peers
     all = go_all e.peers joined.few_peers e.view e.acts (opening_of (group_of e)) 0 [] refl (few (length e.acts) joined.few_acts) refl joined.of_peers joined.messages_were_sent opens
       where
-        few : (n : ℕ) → n < 2 ^ 32 → 0 + n < 2 ^ 64 - 1
+        few : (n : ℕ) → n < 2 ^ 64 → 0 + n < 2 ^ 64
         few n h = omega arith
 
     is_group : AreOneGroup e
@@ -155,13 +156,14 @@ module _ {D : Type 0} (seen : D → Option (List ℕ)) (faults : D → ℕ) wher
       sound = record {
         few_peers = joined.few_peers;
         is_view = joined.is_view;
-        few_moments = subst (λ (n : ℕ). n < 2 ^ 32) (sym (length-map e.acts moment_of)) joined.few_acts;
+        few_moments = subst (λ (n : ℕ). n < 2 ^ 64) (sym (length-map e.acts moment_of)) joined.few_acts;
+        few_calls = joined.few_calls;
         of_peers = all.of_peers;
         first_without_fact = λ p among. first_bare e.peers joined.few_peers e.view p (e.lives p) (joined.lived p among);
         one_process = all.one;
         facts_survive = all.facts;
         messages_were_sent = all.messages;
-        calls_keep_limits = all.keep;
+        events_keep_limits = all.keep;
         distinct_calls = joined.distinct_calls;
         no_clash = joined.no_clash;
       };

@@ -1,5 +1,7 @@
 pub mod Living
+pub mod Few
 pub mod Lone
+pub mod GroupStory
 pub mod Lines
 pub mod Found
 pub mod Births
@@ -19,3 +21,5 @@ pub mod Keeping
 pub mod Serving
 pub mod LoneGroup
 pub mod Alone
+pub mod Several
+pub mod Story

@@ -1,7 +1,7 @@
 -- The moments of a group as lines of a schedule: of these only the calls and the number count.
-use Rattle.std.proofs.Common.{◌≡◌, ◌∙◌, ℕ, ◌+◌, suc, List, [], ◌∷◌, length, refl, ap}
+use Rattle.std.proofs.Common.{◌≡◌, ◌∙◌, ℕ, ◌+◌, suc, List, [], ◌∷◌, length, None, refl, ap}
 use Rattle.world_refinement.specs.Lines as schedule
-use Rattle.process_laws.specs.Moments.{Moment, Starts, Takes, IsCutOff, call_in, calls_from, answers_in}
+use Rattle.process_laws.specs.Moments.{Moment, Starts, Takes, Spoils, IsCutOff, call_in, calls_from, answers_in}
 use Rattle.peer_state.specs.declared.event.Event.{Event}
 use Rattle.peer_state.specs.declared.event.Event.TheVariants as events
 use Rattle.register_model.specs.declared.answer.Answer.{Answer}
@@ -19,6 +19,7 @@ line_on p event = line.Tick p 1
 abbrev pub line_of : Moment → ScheduleEvent
 line_of (Starts p found) = line.Start p
 line_of (Takes p event) = line_on p event
+line_of (Spoils p nodes objects) = line.Spoil p [] None
 line_of (IsCutOff p) = line.Stop p
 
 abbrev pub lines_for : List Moment → List ScheduleEvent
@@ -36,6 +37,7 @@ call_same (Takes p (events.Call c)) n rest = refl
 call_same (Takes p (events.Deliver from message)) n rest = refl
 call_same (Takes p events.Tick) n rest = refl
 call_same (Takes p (events.Change view)) n rest = refl
+call_same (Spoils p nodes objects) n rest = refl
 call_same (IsCutOff p) n rest = refl
 
 -- the same calls at the same numbers

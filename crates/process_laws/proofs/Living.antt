@@ -233,14 +233,14 @@ module _ {D L T : Type 0} (seen : D → Option (List ℕ)) (may_leave : D → Li
   interrupted : (status : Status) (turns : List Turn) (place : Place) → Interrupted seen may_leave moment left_since faults sent given link_faults coming w status disks disks_after link link_after ticker ticker_after turns place → Lived
   interrupted status turns place s = record {
     on = interrupted_on status turns place s;
-    kept = s.kept;
-    late = s.late;
-    steps = s.steps;
+    kept = s.durable.kept;
+    late = s.durable.late;
+    steps = s.durable.all;
     late_few = s.few;
-    state = s.state;
-    left = s.stores;
-    reached = s.reached;
-    sends = sent_prefix place status (sent link) (sent link_after) (frames_in w.me s.kept) s.sends;
+    state = s.durable.state;
+    left = s.durable.stores;
+    reached = s.durable.reached;
+    sends = sent_prefix place status (sent link) (sent link_after) (frames_in w.me s.durable.kept) s.sends;
     facts = s.facts;
   }
 

@@ -9,7 +9,7 @@ use Rattle.process_laws.specs.Premises.{Always, FactSurvives, IsSound}
 use Rattle.process_laws.specs.GroupWitness.{StartsOnOlder, two_lives, two_processes, a_lost_fact, an_unsent_message}
 use Rattle.peer_spec.specs.Drives.{driven, most_turns}
 use Rattle.lexemes.proofs.Ascending.{IsPeer-members, IsStrictlyIncreasing-members}
-use Rattle.lexemes.specs.Spelling.{AscendFrom}
+use Rattle.lexemes.specs.Spelling.{AscendFrom, IsAmong}
 use Rattle.synctree.specs.Sixteen.{form_of}
 use Rattle.wire_frames.specs.declared.message.Message.{Message}
 use Rattle.world_spec.specs.Held.{HasNoClash}
@@ -34,6 +34,9 @@ no_clash : HasNoClash (run_of two_lives).hashed
 unfolding walk driven most_turns form_of
 no_clash = one_string _
 
+is_first : IsAmong 1 1
+is_first = record { first = lit≤ tt; last = lit≤ tt }
+
 -- every premise is met
 pub lone_sound : IsSound two_lives
 unfolding walk driven most_turns form_of
@@ -41,12 +44,13 @@ lone_sound = record {
   few_peers = lit≤ tt;
   is_view = lone_view;
   few_moments = lit< tt;
-  of_peers = (record { first = lit≤ tt; last = lit≤ tt }, (record { first = lit≤ tt; last = lit≤ tt }, (record { first = lit≤ tt; last = lit≤ tt }, (record { first = lit≤ tt; last = lit≤ tt }, tt))));
+  few_calls = record { few = lit< tt; keys = []; few_keys = lit< tt; own_key = λ c none. absurd none };
+  of_peers = (is_first, (is_first, (is_first, (is_first, (is_first, (is_first, tt))))));
   first_without_fact = λ p among. refl;
-  one_process = (tt, (tt, (tt, (tt, tt))));
-  facts_survive = (tt, (tt, (refl, (tt, tt))));
-  messages_were_sent = (tt, (tt, (tt, (tt, tt))));
-  calls_keep_limits = (tt, (tt, (tt, (tt, tt))));
+  one_process = (tt, (tt, (tt, (tt, (tt, (tt, tt))))));
+  facts_survive = (tt, (tt, (tt, (tt, (refl, (tt, tt))))));
+  messages_were_sent = (tt, (tt, (tt, (tt, (tt, (tt, tt))))));
+  events_keep_limits = (tt, (tt, (tt, (tt, (tt, (tt, tt))))));
   distinct_calls = tt;
   no_clash = no_clash;
 }

@@ -6,11 +6,12 @@ use Rattle.protocol_laws.specs.Book.{MayCall}
 use Rattle.protocol_laws.specs.Protocol.{State, Step, Begin, Ask, happens, state_after}
 use Rattle.world_refinement.proofs.Agreement.{Stands, carried}
 use Rattle.world_refinement.proofs.BookSteps.{begin_opens, ask_opens, line_begins, taken_within, line_ends, alike_agrees, quiet_agrees}
+use Rattle.world_refinement.proofs.ChangedStores.{SparesRecords}
 use Rattle.world_refinement.proofs.GivenAnswers.{parts_same}
 use Rattle.world_refinement.proofs.Schedules.{TakesStep, GoesAlong, Changes, IsCarried, IsAfter, after_start}
 use Rattle.world_refinement.proofs.Schedules as along
 use Rattle.world_refinement.proofs.StepsInWorlds.{StepGoes, called_goes, own_fits, renewed}
-use Rattle.world_refinement.proofs.WorldGrammar.{IsIntact, IsHarmless, alike_intact, changed_intact, frame_comes, is_peer, started_intact, stopped_harmless, taken_intact}
+use Rattle.world_refinement.proofs.WorldGrammar.{IsIntact, IsHarmless, alike_intact, changed_intact, frame_comes, is_peer, over_harmless, started_intact, stopped_harmless, taken_intact}
 use Rattle.world_refinement.proofs.ChangedNodes.{frame_at, set_same}
 use Rattle.world_refinement.specs.Lines.{BookAgrees, Within, Opens, calls_from, call_at}
 use Rattle.world_refinement.specs.Roles.{roles_of, said_in}
@@ -20,11 +21,12 @@ use Rattle.ens_base.specs.Limits.{IsKey, IsCommand}
 use Rattle.ens_base.specs.Lists.{◌∈◌, AreDistinct}
 use Rattle.ens_base.specs.View.{IsPeer}
 use Rattle.ens_base.specs.declared.command.Command.{Command}
+use Rattle.environment.specs.Maps.{Entries}
 use Rattle.protocol_laws.proofs.Replies.{run_entries}
 use Rattle.role_laws.proofs.Roles.{run_roles}
 use Rattle.network.specs.Mail.{MayBeSent}
-use Rattle.process_laws.specs.Moments.{Moment, Starts, Takes, IsCutOff, Found, stores_found, down_on, happened, after, run_on}
-use Rattle.process_laws.specs.Premises.{Always, IsOfPeers, IsOneProcess, FactSurvives, WasSent, IsFromFrames, IsRunning, IsDown, kept_by, node_of}
+use Rattle.process_laws.specs.Moments.{Moment, Starts, Takes, Spoils, IsCutOff, Found, stores_found, down_on, with_contents, happened, after, run_on}
+use Rattle.process_laws.specs.Premises.{Always, IsOfPeers, IsOneProcess, FactSurvives, WasSent, IsWithinLimits, IsRunning, IsDown, kept_by, node_of}
 use Rattle.peer_state.specs.declared.event.CallIn.{CallIn}
 use Rattle.peer_state.specs.declared.event.Event.{Event}
 use Rattle.peer_state.specs.declared.event.Event.TheVariants as events
@@ -34,7 +36,8 @@ use Rattle.protocol_laws.proofs.Noted.{run_listed}
 use Rattle.schedule_text.specs.declared.event.ScheduleEvent.{ScheduleEvent}
 use Rattle.schedule_text.specs.declared.event.ScheduleEvent.TheVariants as line
 use Rattle.lexemes.specs.Spelling.{IsAmong}
-use Rattle.step_refinement.proofs.CalledKeys.{run_calls_few}
+use Rattle.step_refinement.proofs.CalledKeys.{some_few}
+use Rattle.step_refinement.specs.Keys.{AreFew}
 use Rattle.step_refinement.specs.Peers.{AsksFit}
 use Rattle.step_refinement.specs.Steps.{asked_in}
 use Rattle.role_laws.specs.Facts.{Lines, AreFirm}
@@ -44,10 +47,11 @@ use Rattle.peer_refinement.specs.Trees.{AreAmong, AreFree}
 use Rattle.wire_frames.specs.declared.frame.Frame.{Frame}
 use Rattle.world_spec.proofs.Growth.{IsFurther, further_same, further_later, stepped_grows, changed_at_grows, start_grows}
 use Rattle.world_spec.specs.Lines.{counted}
-use Rattle.world_spec.specs.Nodes.{Node, Up, Down, taken, started, stopped}
+use Rattle.world_spec.specs.Nodes.{Node, Up, Down, over_stores, taken, started, stopped}
 use Rattle.world_spec.specs.Runs.{Run, next_event, place_of, with_taken, stepped_at, stepped, changed_at, changed, start_strings, hashing, mode_at, with_start}
 use Rattle.process_laws.proofs.Found.{found_holds}
 use Rattle.process_laws.proofs.Lines.{line_of, lines_for}
+use Rattle.process_laws.specs.Laws.{view_in, views_in}
 
 -- ## Worlds grow
 
@@ -55,6 +59,7 @@ use Rattle.process_laws.proofs.Lines.{line_of, lines_for}
 happened_grows : (m : Moment) (w : Run) → IsFurther w (happened m w)
 happened_grows (Starts p found) w = let v = changed p (down_on found) w in further_later w v (with_start p v) (changed_at_grows (slice_get w.nodes (place_of p)) p (down_on found) w) (start_grows p v)
 happened_grows (Takes p event) w = stepped_grows p event w
+happened_grows (Spoils p nodes objects) w = changed_at_grows (slice_get w.nodes (place_of p)) p (over_stores (with_contents nodes objects)) w
 happened_grows (IsCutOff p) w = changed_at_grows (slice_get w.nodes (place_of p)) p stopped w
 
 after_grows : (m : Moment) (w : Run) → IsFurther w (after m w)
@@ -87,6 +92,10 @@ down_node (Some (Down stores)) is = (stores, refl)
 down_harmless : (found : Found) (p : ℕ) → IsHarmless p (down_on found)
 down_harmless found p = record { own = λ node own. tt; ready = λ node ready. tt }
 
+-- other nodes and objects leave the fact and the records of the tree
+contents_spare : (nodes objects : Entries) → SparesRecords (with_contents nodes objects)
+contents_spare nodes objects = record { kept = λ stores. refl; tops = λ stores. refl; root = λ stores. refl; version = λ stores. refl }
+
 -- the world in which one more event is counted
 abbrev over : Run → Run
 over v = record v { events = next_event v.events }
@@ -118,7 +127,15 @@ new_moment done more (Takes p (events.Deliver from message)) distinct = tt
 new_moment done more (Takes p events.Tick) distinct = tt
 new_moment done more (Takes p (events.Change asked)) distinct = tt
 new_moment done more (Starts p found) distinct = tt
+new_moment done more (Spoils p nodes objects) distinct = tt
 new_moment done more (IsCutOff p) distinct = tt
+
+-- the calls of the first lines are calls of all
+calls_prefix : (n : ℕ) (done more : List ScheduleEvent) (c : Call) → c ∈ calls_from n done → c ∈ calls_from n (done ++ more)
+calls_prefix n [] more c at = absurd at
+calls_prefix n (line.Call q i k x ∷ done) more c (inl is) = inl is
+calls_prefix n (line.Call q i k x ∷ done) more c (inr at) = inr (calls_prefix (n + 1) done more c at)
+calls_prefix n (_ ∷ done) more c at = calls_prefix (n + 1) done more c at
 
 -- no message has a number below the first
 none_below : (n : ℕ) → nat_lt n 0 ≡ false
@@ -161,13 +178,6 @@ module _ (peers : ℕ) (view : List ℕ) (lines : Lines) (strings : List (List �
       by_id true came = (is_key, is_command)
       by_id false came = asked i came
 
-  -- fewer calls came than the event has for a number
-  calls_below : (steps : List Step) (w : Run) → WorldHolds lines view strings steps w → (state_after view steps).book.now < 2 ^ 32 → length (state_after view steps).book.calls < 2 ^ 32
-  calls_below steps w holds few = below (length (state_after view steps).book.calls) (state_after view steps).book.now (run_calls_few view steps holds.parts.run) few
-    where
-      below : (c n : ℕ) → c ≤ n → n < 2 ^ 32 → c < 2 ^ 32
-      below c n less few = omega (arith, less, few)
-
   call_goes : (p : ℕ) (c : CallIn) (node : Node) (w : Run) (s : State) → P w s → IsKey c.key → IsCommand c.command → MayCall s.book (asked_in s c) → TakesStep whole p (events.Call c) node w (happens s (Ask (asked_in s c))) → GoesAlong P p (taken p (events.Call c) node) w (happens s (Ask (asked_in s c)))
   call_goes p c node w s a is_key is_command = subst (λ (t : State). MayCall t.book (asked_in t c) → TakesStep whole p (events.Call c) node w (happens t (Ask (asked_in t c))) → GoesAlong P p (taken p (events.Call c) node) w (happens t (Ask (asked_in t c)))) a.is (at_run a.steps a.holds)
     where
@@ -187,17 +197,11 @@ module _ (peers : ℕ) (view : List ℕ) (lines : Lines) (strings : List (List �
             roles = record { ghosts = holds.roles.ghosts; hash = holds.roles.hash; hold = (run_roles view steps holds.parts.run).silent holds.roles.ghosts (roles_of w.nodes) (said_in w.mail.sent) ask (tt, may) tt holds.roles.hold };
           }
 
-          fewer : length (happens t ask).book.calls < 2 ^ 32
-          fewer = calls_below (ask ∷ steps) w come takes.few
-
-          few : length t.book.calls < 2 ^ 32
-          few = less (length t.book.calls) fewer
-            where
-              less : (n : ℕ) → suc n < 2 ^ 32 → n < 2 ^ 32
-              less n h = omega (arith, h)
+          few : AreFew t.book.calls
+          few = some_few t.book.calls (happens t ask).book.calls (λ d at. inr at) takes.few
 
           g : StepGoes lines sound view strings free p takes.peer w (ask ∷ steps) (taken p (events.Call c) node)
-          g = called_goes lines sound view strings free p takes.peer w c node steps holds few takes.at may come fewer (taken_intact p (events.Call c) node w takes.peer takes.comes takes.at takes.intact).fine.mail (among_all (with_taken p (taken p (events.Call c) node) w) takes.further)
+          g = called_goes lines sound view strings free p takes.peer w c node steps holds few takes.at may come takes.few (taken_intact p (events.Call c) node w takes.peer takes.comes takes.at takes.intact).fine.mail (among_all (with_taken p (taken p (events.Call c) node) w) takes.further)
 
   -- a call whose id no call before it has may come
   may_call : (done : List ScheduleEvent) (w : Run) (c : CallIn) (s : State) → P w s → BookAgrees done w s.book → ((d : Call) → d ∈ calls_from 1 done → d.id ≡ c.id → ⊥) → MayCall s.book (asked_in s c)
@@ -218,7 +222,7 @@ module _ (peers : ℕ) (view : List ℕ) (lines : Lines) (strings : List (List �
     pub agrees : IsAfter peers P done w
     pub alive : w.first_alive ≡ 0
 
-  module _ (done : List ScheduleEvent) (event : ScheduleEvent) (few : length (done ++ event ∷ []) < 2 ^ 32) where
+  module _ (done : List ScheduleEvent) (event : ScheduleEvent) (few : length (done ++ event ∷ []) < 2 ^ 64) (calls : AreFew (calls_from 1 (done ++ event ∷ []))) where
     -- a moment is over
     ended : (v : Run) (s : State) → P v s → Within (done ++ event ∷ []) v s.book → length v.nodes ≡ peers → IsIntact v → v.first_alive ≡ 0 → IsAt (done ++ event ∷ []) (over v)
     ended v s holds within size intact alive = record {
@@ -246,8 +250,8 @@ module _ (peers : ℕ) (view : List ℕ) (lines : Lines) (strings : List (List �
       begun_holds : P w begun
       begun_holds = carries.begins w here.state here.holds
 
-      few_begun : (s : State) → Within (done ++ event ∷ []) w s.book → s.book.now < 2 ^ 32
-      few_begun s within = subst (λ (n : ℕ). n < 2 ^ 32) (sym within.now) few
+      few_begun : (s : State) → Within (done ++ event ∷ []) w s.book → AreFew s.book.calls
+      few_begun s within = some_few s.book.calls (calls_from 1 (done ++ event ∷ [])) (λ c at. (within.calls c).0 at) calls
 
       -- a peer took a step
       stepped_over : (p : ℕ) (deed : Event) (node : Node) (s : State) → IsPeer p → MayCome p deed → slice_get w.nodes (place_of p) ≡ Some node → Within (done ++ event ∷ []) w s.book → GoesAlong P p (taken p deed node) w s → IsAt (done ++ event ∷ []) (record (stepped p deed w) { events = next_event w.events })
@@ -263,6 +267,15 @@ module _ (peers : ℕ) (view : List ℕ) (lines : Lines) (strings : List (List �
           let within = begins none in
           stepped_over p events.Tick node begun peer tt at within
           (carries.ticks p node w begun among (record { at = at; further = far_taken w p events.Tick node at far; few = few_begun begun within; peer = peer; comes = tt; intact = here.intact }) begun_holds)
+
+      -- a request for a view that may vote
+      asked_for : (p : ℕ) (asked : List ℕ) (node : Node) → IsAmong peers p → asked ∈ lines.voting → slice_get w.nodes (place_of p) ≡ Some node → ((n : ℕ) → call_at event n [] ≡ []) → IsFurther (record (stepped p (events.Change asked) w) { events = next_event w.events }) whole
+          → IsAt (done ++ event ∷ []) (record (stepped p (events.Change asked) w) { events = next_event w.events })
+      asked_for p asked node among votes at none far =
+          let peer : IsPeer p = is_peer peers p small among in
+          let within = begins none in
+          stepped_over p (events.Change asked) node begun peer tt at within
+          (carries.takes_change p asked node w begun votes (record { at = at; further = far_taken w p (events.Change asked) node at far; few = few_begun begun within; peer = peer; comes = tt; intact = here.intact }) begun_holds)
 
       -- a message that was sent
       delivered : (f : Frame) (node : Node) → f ∈ w.mail.sent → slice_get w.nodes (place_of f.to) ≡ Some node → ((n : ℕ) → call_at event n [] ≡ []) → IsFurther (record (stepped f.to (events.Deliver f.from f.message) w) { events = next_event w.events }) whole
@@ -292,17 +305,23 @@ module _ (peers : ℕ) (view : List ℕ) (lines : Lines) (strings : List (List �
           within : Within (done ++ event ∷ []) w asked.book
           within = line_begins done event w here.state.book asked.book here.agrees (subst (λ (cs : List Call). Opens cs here.state.book asked.book) (sym one) (ask_opens here.state (asked_in here.state c)))
 
-      -- a process is cut off
-      cut : (p : ℕ) (node : Node) → IsAmong peers p → slice_get w.nodes (place_of p) ≡ Some node → ((n : ℕ) → call_at event n [] ≡ []) → IsAt (done ++ event ∷ []) (record (changed p stopped w) { events = next_event w.events })
-      cut p node among at none = by (carries.stops p node w begun among at begun_holds)
+      -- the node of a peer changes, and the protocol goes along
+      altered : (change : Node → Node) (p : ℕ) (node : Node) → IsAmong peers p → slice_get w.nodes (place_of p) ≡ Some node → IsHarmless p change → ((n : ℕ) → call_at event n [] ≡ []) → Changes P p (change node) w begun → IsAt (done ++ event ∷ []) (record (changed p change w) { events = next_event w.events })
+      altered change p node among at harmless none g = subst (λ (o : Option Node). IsAt (done ++ event ∷ []) (record (changed_at o p change w) { events = next_event w.events })) (sym at)
+          (ended v g.next g.holds (alike_agrees 1 (done ++ event ∷ []) w v g.next.book refl refl refl (quiet_agrees 1 (done ++ event ∷ []) w begun.book g.next.book g.quiet (begins none))) (length-set w.nodes (place_of p) (change node) ∙ here.size)
+          (changed_intact change p node w harmless (is_peer peers p small among) at here.intact) is.alive)
         where
           v : Run
-          v = record w { nodes = slice_set w.nodes (place_of p) (stopped node) }
+          v = record w { nodes = slice_set w.nodes (place_of p) (change node) }
 
-          by : Changes P p (stopped node) w begun → IsAt (done ++ event ∷ []) (record (changed p stopped w) { events = next_event w.events })
-          by g = subst (λ (o : Option Node). IsAt (done ++ event ∷ []) (record (changed_at o p stopped w) { events = next_event w.events })) (sym at)
-              (ended v g.next g.holds (alike_agrees 1 (done ++ event ∷ []) w v g.next.book refl refl refl (quiet_agrees 1 (done ++ event ∷ []) w begun.book g.next.book g.quiet (begins none))) (length-set w.nodes (place_of p) (stopped node) ∙ here.size)
-              (changed_intact stopped p node w (stopped_harmless p) (is_peer peers p small among) at here.intact) is.alive)
+      -- a process is cut off
+      cut : (p : ℕ) (node : Node) → IsAmong peers p → slice_get w.nodes (place_of p) ≡ Some node → ((n : ℕ) → call_at event n [] ≡ []) → IsAt (done ++ event ∷ []) (record (changed p stopped w) { events = next_event w.events })
+      cut p node among at none = altered stopped p node among at (stopped_harmless p) none (carries.stops p node w begun among at begun_holds)
+
+      -- its nodes and objects become others
+      spoiled : (p : ℕ) (nodes objects : Entries) (node : Node) → IsAmong peers p → slice_get w.nodes (place_of p) ≡ Some node → ((n : ℕ) → call_at event n [] ≡ []) → IsAt (done ++ event ∷ []) (record (changed p (over_stores (with_contents nodes objects)) w) { events = next_event w.events })
+      spoiled p nodes objects node among at none = let f : HeldStores → HeldStores = with_contents nodes objects in
+          altered (over_stores f) p node among at (over_harmless f p) none (carries.alters p f node w begun (contents_spare nodes objects) among at begun_holds)
 
       -- a process starts on what it finds
       started_on : (p : ℕ) (found : Found) (stores : HeldStores) → IsAmong peers p → slice_get w.nodes (place_of p) ≡ Some (Down stores) → found.fact ≡ stores.facts.kept → ((n : ℕ) → call_at event n [] ≡ []) → IsFurther (record (with_start p (changed p (down_on found) w)) { events = next_event w.events }) whole
@@ -343,33 +362,61 @@ module _ (peers : ℕ) (view : List ℕ) (lines : Lines) (strings : List (List �
               further_start : IsFurther (record (with_start p v) { events = next_event w.events }) whole → IsFurther (after_start p node v) whole
               further_start f = subst (λ (u : Run). IsFurther u whole) start_is (record { sent = f.sent; hashed = f.hashed })
 
-  moment_over : (done : List ScheduleEvent) (m : Moment) (few : length (done ++ line_of m ∷ []) < 2 ^ 32) (w : Run) → IsAt done w → IsOfPeers peers w m → IsOneProcess w m → FactSurvives w m → WasSent w m → IsFromFrames w m → IsNew done m → IsFurther (after m w) whole → IsAt (done ++ line_of m ∷ []) (after m w)
-  moment_over done (Starts p found) few w is among one fact sent frames new far = let d = down_node (node_of w p) one in started_on done (line.Start p) few w is p found d.0 among d.1 (fact ∙ ap kept_by d.1) (λ n. refl) far
-  moment_over done (Takes p (events.Deliver from message)) few w is among one fact sent frames new far =
-      let r = running_node (node_of w p) one in delivered done (line.Tick p 1) few w is (record { from = from; to = p; message = message }) (Up r.0 r.1) sent r.2 (λ n. refl) far
-  moment_over done (Takes p events.Tick) few w is among one fact sent frames new far = let r = running_node (node_of w p) one in ticked done (line.Tick p 1) few w is p (Up r.0 r.1) among r.2 (λ n. refl) far
-  moment_over done (Takes p (events.Call c)) few w is among one fact sent frames new far =
+  -- a view that is asked for may vote
+  abbrev Votes : Moment → Type 0
+  Votes (Takes p (events.Change asked)) = asked ∈ lines.voting
+  Votes m = Unit {0}
+
+  first_votes : (m : Moment) (rest : List (List ℕ)) → ((v : List ℕ) → v ∈ view_in m rest → v ∈ lines.voting) → Votes m
+  first_votes (Takes p (events.Change asked)) rest votes = votes asked (inl refl)
+  first_votes (Takes p (events.Call c)) rest votes = tt
+  first_votes (Takes p (events.Deliver from message)) rest votes = tt
+  first_votes (Takes p events.Tick) rest votes = tt
+  first_votes (Starts p found) rest votes = tt
+  first_votes (Spoils p nodes objects) rest votes = tt
+  first_votes (IsCutOff p) rest votes = tt
+
+  later_votes : (m : Moment) (rest : List (List ℕ)) → ((v : List ℕ) → v ∈ view_in m rest → v ∈ lines.voting) → (v : List ℕ) → v ∈ rest → v ∈ lines.voting
+  later_votes (Takes p (events.Change asked)) rest votes v at = votes v (inr at)
+  later_votes (Takes p (events.Call c)) rest votes v at = votes v at
+  later_votes (Takes p (events.Deliver from message)) rest votes v at = votes v at
+  later_votes (Takes p events.Tick) rest votes v at = votes v at
+  later_votes (Starts p found) rest votes v at = votes v at
+  later_votes (Spoils p nodes objects) rest votes v at = votes v at
+  later_votes (IsCutOff p) rest votes v at = votes v at
+
+  moment_over : (done : List ScheduleEvent) (m : Moment) (few : length (done ++ line_of m ∷ []) < 2 ^ 64) (calls : AreFew (calls_from 1 (done ++ line_of m ∷ []))) (w : Run) → IsAt done w → IsOfPeers peers w m → IsOneProcess w m → FactSurvives w m → WasSent w m → IsWithinLimits w m → Votes m → IsNew done m → IsFurther (after m w) whole → IsAt (done ++ line_of m ∷ []) (after m w)
+  moment_over done (Starts p found) few calls w is among one fact sent limits votes new far = let d = down_node (node_of w p) one in started_on done (line.Start p) few calls w is p found d.0 among d.1 (fact ∙ ap kept_by d.1) (λ n. refl) far
+  moment_over done (Takes p (events.Deliver from message)) few calls w is among one fact sent limits votes new far =
+      let r = running_node (node_of w p) one in delivered done (line.Tick p 1) few calls w is (record { from = from; to = p; message = message }) (Up r.0 r.1) sent r.2 (λ n. refl) far
+  moment_over done (Takes p events.Tick) few calls w is among one fact sent limits votes new far = let r = running_node (node_of w p) one in ticked done (line.Tick p 1) few calls w is p (Up r.0 r.1) among r.2 (λ n. refl) far
+  moment_over done (Takes p (events.Call c)) few calls w is among one fact sent limits votes new far =
       let r = running_node (node_of w p) one in
-      called done (line.Call p c.id c.key c.command) few w is p c (Up r.0 r.1) among frames.1 frames.2 r.2 refl (may_call done w c is.agrees.state is.agrees.holds is.agrees.agrees new) far
-  moment_over done (Takes p (events.Change asked)) few w is among one fact sent frames new far = absurd frames
-  moment_over done (IsCutOff p) few w is among one fact sent frames new far = let r = running_node (node_of w p) one in cut done (line.Stop p) few w is p (Up r.0 r.1) among r.2 (λ n. refl)
+      called done (line.Call p c.id c.key c.command) few calls w is p c (Up r.0 r.1) among limits.1 limits.2 r.2 refl (may_call done w c is.agrees.state is.agrees.holds is.agrees.agrees new) far
+  moment_over done (Takes p (events.Change asked)) few calls w is among one fact sent limits votes new far = let r = running_node (node_of w p) one in asked_for done (line.Tick p 1) few calls w is p asked (Up r.0 r.1) among votes r.2 (λ n. refl) far
+  moment_over done (Spoils p nodes objects) few calls w is among one fact sent limits votes new far = let r = running_node (node_of w p) one in spoiled done (line.Spoil p [] None) few calls w is p nodes objects (Up r.0 r.1) among r.2 (λ n. refl)
+  moment_over done (IsCutOff p) few calls w is among one fact sent limits votes new far = let r = running_node (node_of w p) one in cut done (line.Stop p) few calls w is p (Up r.0 r.1) among r.2 (λ n. refl)
 
   -- many moments
-  pub all_over : (done : List ScheduleEvent) (ms : List Moment) (w : Run) → length (done ++ lines_for ms) < 2 ^ 32 → IsAt done w → Always (IsOfPeers peers) ms w → Always IsOneProcess ms w → Always FactSurvives ms w → Always WasSent ms w → Always IsFromFrames ms w
+  pub all_over : (done : List ScheduleEvent) (ms : List Moment) (w : Run) → length (done ++ lines_for ms) < 2 ^ 64 → AreFew (calls_from 1 (done ++ lines_for ms)) → IsAt done w → Always (IsOfPeers peers) ms w → Always IsOneProcess ms w → Always FactSurvives ms w → Always WasSent ms w → Always IsWithinLimits ms w → ((v : List ℕ) → v ∈ views_in ms → v ∈ lines.voting)
       → AreDistinct (ids_of (calls_from 1 (done ++ lines_for ms))) → IsFurther (run_on ms w) whole → IsAt (done ++ lines_for ms) (run_on ms w)
-  all_over done [] w few is among one facts sent frames distinct far = subst (λ (events : List ScheduleEvent). IsAt events w) (sym (append-nil done)) is
-  all_over done (m ∷ ms) w few is among one facts sent frames distinct far =
+  all_over done [] w few calls is among one facts sent limits votes distinct far = subst (λ (events : List ScheduleEvent). IsAt events w) (sym (append-nil done)) is
+  all_over done (m ∷ ms) w few calls is among one facts sent limits votes distinct far =
       let v : Run = after m w in
       subst (λ (events : List ScheduleEvent). IsAt events (run_on ms v)) moved
-      (all_over (done ++ line_of m ∷ []) ms v (subst (λ (events : List ScheduleEvent). length events < 2 ^ 32) (sym moved) few)
-      (moment_over done m few_here w is among.0 one.0 facts.0 sent.0 frames.0 (new_moment done (lines_for ms) m distinct) (further_later v (run_on ms v) whole (run_grows ms v) far)) among.1 one.1 facts.1 sent.1 frames.1
+      (all_over (done ++ line_of m ∷ []) ms v (subst (λ (events : List ScheduleEvent). length events < 2 ^ 64) (sym moved) few) (subst (λ (events : List ScheduleEvent). AreFew (calls_from 1 events)) (sym moved) calls)
+      (moment_over done m few_here calls_here w is among.0 one.0 facts.0 sent.0 limits.0 (first_votes m (views_in ms) votes) (new_moment done (lines_for ms) m distinct) (further_later v (run_on ms v) whole (run_grows ms v) far)) among.1 one.1 facts.1 sent.1 limits.1 (later_votes m (views_in ms) votes)
       (subst (λ (events : List ScheduleEvent). AreDistinct (ids_of (calls_from 1 events))) (sym moved) distinct) far)
     where
       moved : (done ++ line_of m ∷ []) ++ lines_for ms ≡ done ++ line_of m ∷ lines_for ms
       moved = append_assoc done (line_of m ∷ []) (lines_for ms)
 
-      shorter : length (done ++ line_of m ∷ lines_for ms) ≡ length done + suc (length (lines_for ms)) → length (done ++ line_of m ∷ []) ≡ length done + 1 → length (done ++ line_of m ∷ []) < 2 ^ 32
+      shorter : length (done ++ line_of m ∷ lines_for ms) ≡ length done + suc (length (lines_for ms)) → length (done ++ line_of m ∷ []) ≡ length done + 1 → length (done ++ line_of m ∷ []) < 2 ^ 64
       shorter e f = omega arith
 
-      few_here : length (done ++ line_of m ∷ []) < 2 ^ 32
+      few_here : length (done ++ line_of m ∷ []) < 2 ^ 64
       few_here = shorter (length-append done (line_of m ∷ lines_for ms)) (length-append done (line_of m ∷ []))
+
+      calls_here : AreFew (calls_from 1 (done ++ line_of m ∷ []))
+      calls_here = some_few (calls_from 1 (done ++ line_of m ∷ [])) (calls_from 1 (done ++ line_of m ∷ lines_for ms))
+          (λ c at. subst (λ (events : List ScheduleEvent). c ∈ calls_from 1 events) moved (calls_prefix 1 (done ++ line_of m ∷ []) (lines_for ms) c at)) calls

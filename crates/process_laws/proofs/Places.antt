@@ -1,5 +1,5 @@
 -- Places in lists, and the acts of one peer.
-use Rattle.std.proofs.Common.{◌≡◌, ◌∙◌, ◌+◌, ◌<◌, ◌≤◌, ℕ, zero, suc, Bool, eq-eqb, if◌then◌else◌, List, [], ◌∷◌, Some, slice_get, slice_set, arith, refl, ap}
+use Rattle.std.proofs.Common.{◌≡◌, ◌⊎◌, ◌∙◌, ◌+◌, ◌<◌, ◌≤◌, ℕ, zero, suc, Bool, eq-eqb, if◌then◌else◌, List, [], ◌∷◌, Some, slice_get, slice_set, arith, refl, ap, subst, inl, inr}
 use Rattle.std.proofs.lemmas.Option.{none-some}
 use Rattle.process_laws.specs.Moments.{Found, born, born_on}
 use Rattle.lexemes.specs.Spelling.{IsAmong}
@@ -49,3 +49,23 @@ get_born first view peers q among = born_from first view 1 peers (place_of q) (i
 -- the next act of a peer that acts is this one
 pub own_head : (a : Act) (acts : List Act) → own_acts (actor a) (a ∷ acts) ≡ a ∷ own_acts (actor a) acts
 own_head a acts = ap (λ (b : Bool). if b then a ∷ own_acts (actor a) acts else own_acts (actor a) acts) (eq-eqb (actor a) (actor a) refl)
+
+-- a peer of two is the first or the second
+one_or_two : (p : ℕ) → IsAmong 2 p → (1 ≡ p) ⊎ (2 ≡ p)
+one_or_two zero among = absurd (low among.first)
+  where
+    low : 1 ≤ 0 → ⊥
+    low h = omega (arith, h)
+one_or_two (suc zero) among = inl refl
+one_or_two (suc (suc zero)) among = inr refl
+one_or_two (suc (suc (suc n))) among = absurd (high n among.last)
+  where
+    high : (n : ℕ) → suc (suc (suc n)) ≤ 2 → ⊥
+    high n h = omega (arith, h)
+
+pub for_both : (P : ℕ → Type 0) → P 1 → P 2 → (p : ℕ) → IsAmong 2 p → P p
+for_both P first second p among = by (one_or_two p among)
+  where
+    by : (1 ≡ p) ⊎ (2 ≡ p) → P p
+    by (inl same) = subst P same first
+    by (inr same) = subst P same second

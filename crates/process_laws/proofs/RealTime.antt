@@ -5,7 +5,7 @@ use Rattle.ens_base.proofs.Lists.{in_append, in_left}
 use Rattle.ens_base.specs.Lists.{◌∈◌}
 use Rattle.process_laws.proofs.Groups.{group_legal}
 use Rattle.process_laws.specs.Laws.{AreLegal, KeepsRealTime}
-use Rattle.process_laws.specs.Moments.{Group, Moment, Starts, Takes, IsCutOff, after, answers_in, answers_of, call_in, calls_from, down_on, opening_of, run_of, run_on}
+use Rattle.process_laws.specs.Moments.{Group, Moment, Starts, Takes, Spoils, IsCutOff, after, answers_in, answers_of, call_in, calls_from, down_on, opening_of, run_of, run_on, with_contents}
 use Rattle.process_laws.specs.Premises.{IsSound}
 use Rattle.peer_state.specs.declared.event.Event.{Event}
 use Rattle.peer_state.specs.declared.event.Event.TheVariants as events
@@ -15,7 +15,7 @@ use Rattle.register_model.specs.declared.printed.Printed.{Printed}
 use Rattle.register_model.specs.declared.printed.Printed.TheVariants as printed
 use Rattle.step_plans.specs.LeaderOutput.{AnswerOut}
 use Rattle.step_plans.specs.Plans.{Out}
-use Rattle.world_spec.specs.Nodes.{Node, started, stopped, taken}
+use Rattle.world_spec.specs.Nodes.{Node, over_stores, started, stopped, taken}
 use Rattle.world_spec.specs.Runs.{Run, answer_line, change_line, changed, changed_at, mode_at, next_event, place_of, printed_by, stepped_at}
 
 -- ## Answers
@@ -77,6 +77,8 @@ moment_prints : (m : Moment) (w : Run) → PrintsOn w.printed (after m w).printe
 moment_prints (Starts p found) w = subst (λ (lines : List Printed). PrintsOn w.printed lines (next_event w.events))
     (sym (start_prints p w (changed p (down_on found) w) (changed_prints (slice_get w.nodes (place_of p)) p (down_on found) w))) (prints_nothing w.printed (next_event w.events))
 moment_prints (Takes p event) w = stepped_prints (slice_get w.nodes (place_of p)) p event w
+moment_prints (Spoils p nodes objects) w = subst (λ (lines : List Printed). PrintsOn w.printed lines (next_event w.events))
+    (sym (changed_prints (slice_get w.nodes (place_of p)) p (over_stores (with_contents nodes objects)) w)) (prints_nothing w.printed (next_event w.events))
 moment_prints (IsCutOff p) w = subst (λ (lines : List Printed). PrintsOn w.printed lines (next_event w.events))
     (sym (changed_prints (slice_get w.nodes (place_of p)) p stopped w)) (prints_nothing w.printed (next_event w.events))
 
@@ -85,14 +87,14 @@ moment_prints (IsCutOff p) w = subst (λ (lines : List Printed). PrintsOn w.prin
 pub next_is : (m n : ℕ) → m ≡ n → n < 2 ^ 64 - 1 → next_event m ≡ n + 1
 next_is m n same below = omega arith
 
-run_prints : (ms : List Moment) (w : Run) (number : ℕ) → w.events ≡ number → number + length ms < 2 ^ 64 - 1 → PrintsOn w.printed (run_on ms w).printed (number + length ms)
+run_prints : (ms : List Moment) (w : Run) (number : ℕ) → w.events ≡ number → number + length ms < 2 ^ 64 → PrintsOn w.printed (run_on ms w).printed (number + length ms)
 run_prints [] w number at few = prints_nothing w.printed (number + 0)
 run_prints (m ∷ ms) w number at few = both (moment_prints m w) (run_prints ms (after m w) (number + 1) next (rest number (length ms) few))
   where
-    first : (n k : ℕ) → n + suc k < 2 ^ 64 - 1 → n < 2 ^ 64 - 1
+    first : (n k : ℕ) → n + suc k < 2 ^ 64 → n < 2 ^ 64 - 1
     first n k h = omega arith
 
-    rest : (n k : ℕ) → n + suc k < 2 ^ 64 - 1 → n + 1 + k < 2 ^ 64 - 1
+    rest : (n k : ℕ) → n + suc k < 2 ^ 64 → n + 1 + k < 2 ^ 64
     rest n k h = omega arith
 
     next : next_event w.events ≡ number + 1
@@ -119,17 +121,17 @@ run_further : (before later : List Moment) (w : Run) → run_on (before ++ later
 run_further [] later w = refl
 run_further (m ∷ before) later w = run_further before later (after m w)
 
-events_after : (ms : List Moment) (w : Run) (number : ℕ) → w.events ≡ number → number + length ms < 2 ^ 64 - 1 → (run_on ms w).events ≡ number + length ms
+events_after : (ms : List Moment) (w : Run) (number : ℕ) → w.events ≡ number → number + length ms < 2 ^ 64 → (run_on ms w).events ≡ number + length ms
 events_after [] w number at few = at ∙ none number
   where
     none : (n : ℕ) → n ≡ n + 0
     none n = omega arith
 events_after (m ∷ ms) w number at few = events_after ms (after m w) (number + 1) (next_is w.events number at (first number (length ms) few)) (rest number (length ms) few) ∙ moved number (length ms)
   where
-    first : (n k : ℕ) → n + suc k < 2 ^ 64 - 1 → n < 2 ^ 64 - 1
+    first : (n k : ℕ) → n + suc k < 2 ^ 64 → n < 2 ^ 64 - 1
     first n k h = omega arith
 
-    rest : (n k : ℕ) → n + suc k < 2 ^ 64 - 1 → n + 1 + k < 2 ^ 64 - 1
+    rest : (n k : ℕ) → n + suc k < 2 ^ 64 → n + 1 + k < 2 ^ 64
     rest n k h = omega arith
 
     moved : (n k : ℕ) → n + 1 + k ≡ n + suc k
@@ -144,6 +146,7 @@ skipped (Takes p (events.Call x)) n rest c at = inr at
 skipped (Takes p (events.Deliver from message)) n rest c at = at
 skipped (Takes p events.Tick) n rest c at = at
 skipped (Takes p (events.Change view)) n rest c at = at
+skipped (Spoils p nodes objects) n rest c at = at
 skipped (IsCutOff p) n rest c at = at
 
 call_later : (n : ℕ) (before later : List Moment) (c : Call) → c ∈ calls_from (n + length before) later → c ∈ calls_from n (before ++ later)
@@ -164,6 +167,7 @@ call_first (Takes p (events.Call x)) n rest c (inr at) = inr at
 call_first (Takes p (events.Deliver from message)) n rest c at = inr at
 call_first (Takes p events.Tick) n rest c at = inr at
 call_first (Takes p (events.Change view)) n rest c at = inr at
+call_first (Spoils p nodes objects) n rest c at = inr at
 call_first (IsCutOff p) n rest c at = inr at
 
 -- so its number is no lower
@@ -190,16 +194,16 @@ module _ (g : Group) (sound : IsSound g) where
       sooner : (e n f : ℕ) → e ≤ 0 + n → 1 + n ≤ f → e < f
       sooner e n f less more = omega (arith, less, more)
 
-      many : (n m k : ℕ) → n < 2 ^ 32 → n ≡ m + k → 0 + m < 2 ^ 64 - 1
+      many : (n m k : ℕ) → n < 2 ^ 64 → n ≡ m + k → 0 + m < 2 ^ 64
       many n m k less is = omega (arith, less, is)
 
-      whole : (n m k : ℕ) → n < 2 ^ 32 → n ≡ m + k → 0 + m + k < 2 ^ 64 - 1
+      whole : (n m k : ℕ) → n < 2 ^ 64 → n ≡ m + k → 0 + m + k < 2 ^ 64
       whole n m k less is = omega (arith, less, is)
 
       lengths : length g.moments ≡ length before + length later
       lengths = ap length is ∙ length-append before later
 
-      few : 0 + length before < 2 ^ 64 - 1
+      few : 0 + length before < 2 ^ 64
       few = many (length g.moments) (length before) (length later) sound.few_moments lengths
 
       here : Run

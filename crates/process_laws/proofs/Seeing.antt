@@ -4,7 +4,7 @@ use Rattle.std.proofs.lemmas.List.{append_assoc, length-map, map-append}
 use Rattle.ens_base.proofs.Lists.{in_append, in_left, in_right}
 use Rattle.ens_base.specs.Lists.{◌∈◌}
 use Rattle.process_laws.proofs.RealTime.{call_numbered}
-use Rattle.process_laws.specs.Moments.{Moment, Starts, Takes, IsCutOff, calls_from}
+use Rattle.process_laws.specs.Moments.{Moment, Starts, Takes, IsCutOff, calls_from, Spoils as spoils}
 use Rattle.peer_state.specs.declared.event.CallIn.{CallIn}
 use Rattle.peer_state.specs.declared.event.Event.{Event}
 use Rattle.peer_state.specs.declared.event.Event.TheVariants as events
@@ -12,7 +12,7 @@ use Rattle.register_model.specs.declared.answer.Answer.{Answer}
 use Rattle.register_model.specs.declared.call.Call.{Call}
 use Rattle.step_plans.specs.LeaderOutput.{AnswerOut}
 use Rattle.peer_turns.specs.Deeds.{Deed}
-use Rattle.process_laws.specs.Acts.{Act, Begins, Does, Ends, Execution, answers_at, answers_from, given_at, moment_of}
+use Rattle.process_laws.specs.Acts.{Act, Begins, Does, Spoils, Ends, Execution, answers_at, answers_from, given_at, moment_of}
 use Rattle.process_laws.specs.Clients.{ClientsKeepTime, Sight, Acts, Sends, Hears, acts_in, answers_by, answers_put_out, ids_sent}
 use Rattle.process_laws.specs.Joined.{IsLinearizable}
 
@@ -45,6 +45,7 @@ mapped number (x ∷ xs) answer (inr at) = inr (mapped number xs answer at)
 given_by : (number : ℕ) (act : Act) (answer : AnswerOut) → answer ∈ answers_by act → given_at number answer ∈ answers_at number act
 given_by number (Begins p found) answer at = absurd at
 given_by number (Does p d) answer at = mapped number d.out.answers answer at
+given_by number (Spoils p nodes objects) answer at = absurd at
 given_by number (Ends p) answer at = absurd at
 
 is_given : (number : ℕ) (acts : List Act) (answer : AnswerOut) → answer ∈ answers_put_out acts → IsGiven number acts answer
@@ -102,6 +103,7 @@ came_by : (number : ℕ) (sights : List Sight) (c : Call) → c ∈ calls_from n
 came_by number [] c at = absurd at
 came_by number (Acts (Begins p found) ∷ sights) c at = one_more (Acts (Begins p found)) sights c (came_by (number + 1) sights c at)
 came_by number (Acts (Does p d) ∷ sights) c at = came_at number p d d.event sights c refl at (λ rest. came_by (number + 1) sights c rest)
+came_by number (Acts (Spoils p nodes objects) ∷ sights) c at = one_more (Acts (Spoils p nodes objects)) sights c (came_by (number + 1) sights c at)
 came_by number (Acts (Ends p) ∷ sights) c at = one_more (Acts (Ends p)) sights c (came_by (number + 1) sights c at)
 came_by number (Sends id ∷ sights) c at = one_more (Sends id) sights c (came_by number sights c at)
 came_by number (Hears answer ∷ sights) c at = one_more (Hears answer) sights c (came_by number sights c at)
@@ -131,6 +133,7 @@ one_earlier m number before later c at rest = by m at
     by (Takes p (events.Deliver from message)) here = as_rest (rest here)
     by (Takes p events.Tick) here = as_rest (rest here)
     by (Takes p (events.Change view)) here = as_rest (rest here)
+    by (spoils p nodes objects) here = as_rest (rest here)
     by (IsCutOff p) here = as_rest (rest here)
 
 came_or_later : (number : ℕ) (before later : List Moment) (c : Call) → c ∈ calls_from number (before ++ later) → FirstOrLater number before c

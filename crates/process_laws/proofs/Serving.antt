@@ -1,5 +1,5 @@
 -- What `serve` promises of a peer, over disks that tell their bytes, is a life that may be joined with others.
-use Rattle.std.proofs.Common.{◌≡◌, ◌⊎◌, ◌++◌, ℕ, Bool, List, [], append-nil, Option, None, Some, Result, Ok, refl, sym, ◌∙◌, subst, inl, inr}
+use Rattle.std.proofs.Common.{◌≡◌, ◌⊎◌, ◌++◌, ℕ, Bool, List, [], ◌∷◌, append-nil, Option, None, Some, Result, Ok, refl, sym, ap, ◌∙◌, subst, inl, inr}
 use Rattle.std.proofs.lemmas.List.{map-append}
 use Rattle.disk_stores.specs.Records.{entries_of}
 use Rattle.process_laws.proofs.Running.{not_stopped}
@@ -9,6 +9,7 @@ use Rattle.disk_stores.specs.NodeMaps.{nodes_of}
 use Rattle.ens_base.proofs.Lists.{in_left}
 use Rattle.ens_base.specs.Lists.{◌∈◌}
 use Rattle.ens_base.specs.declared.peer_words.PeerWords.{PeerWords}
+use Rattle.environment.specs.Maps.{Entries}
 use Rattle.fact_store.specs.Held.{held_kept}
 use Rattle.fact_store.specs.Files.{file_kept}
 use Rattle.fact_store.specs.Keeping.{Loads, file_fact}
@@ -32,9 +33,12 @@ use Rattle.step_plans.specs.Calls.{Call, AnswerOf}
 use Rattle.step_plans.specs.Plans.{Finished, Runs, nothing}
 use Rattle.step_plans.specs.declared.error.PeerError.{PeerError}
 use Rattle.peer_turns.specs.Deeds.{Deed, Did, events_in}
+use Rattle.world_spec.specs.Held.{HeldStores}
 use Rattle.world_stores.specs.Facts.{kept_of}
 use Rattle.world_stores.specs.Nodes.{top_of}
-use Rattle.process_laws.specs.Lives.{FactRead, IsTickOrBytes}
+use Rattle.process_laws.specs.Acts.{deeds_in, steps}
+use Rattle.process_laws.specs.Joined.{AreSpoiled, fact_on_disk}
+use Rattle.process_laws.specs.Lives.{FactRead, IsOccasion, Leads}
 use Rattle.process_laws.specs.JoinedServed.{AreBytes, IsAfterSome, IsLifeOf, MayBeJoined, ServedLivesJoin, Tells, found_in}
 use Rattle.process_laws.proofs.Keeping.{start_keeps, steps_keep}
 
@@ -44,12 +48,12 @@ told_of seen P X None file none holds = absurd none
 told_of seen P X (Some d) file is holds = subst (λ (bytes : Option (List ℕ)). Told bytes P) is holds.0
 
 -- what is known of a disk that is there and tells these bytes
-known_of : {D : Type 0} (seen : D → Option (List ℕ)) (P : D → List ℕ → Type 0) (Q : D → Type 0) (o : Option D) (file : List ℕ) → Tells seen o file → ((d : D) → P d file → Q d) → Of o (λ d. Told (seen d) (P d)) → Of o Q
+pub known_of : {D : Type 0} (seen : D → Option (List ℕ)) (P : D → List ℕ → Type 0) (Q : D → Type 0) (o : Option D) (file : List ℕ) → Tells seen o file → ((d : D) → P d file → Q d) → Of o (λ d. Told (seen d) (P d)) → Of o Q
 known_of seen P Q None file none follows holds = absurd none
 known_of seen P Q (Some d) file is follows holds = follows d (subst (λ (bytes : Option (List ℕ)). Told bytes (P d)) is holds)
 
 -- what follows of a disk that is there
-of_some : {D : Type 0} (Q : Type 0) (o : Option D) → Of o (λ d. Q) → Q
+pub of_some : {D : Type 0} (Q : Type 0) (o : Option D) → Of o (λ d. Q) → Q
 of_some Q None holds = absurd holds
 of_some Q (Some d) holds = holds
 
@@ -67,6 +71,17 @@ loaded (Some f) kept before now is = is
 pub events_of_some : (done later : List Deed) (event : Event) → event ∈ events_in done → event ∈ events_in (done ++ later)
 events_of_some done later event here = subst (λ (events : List Event). event ∈ events) (sym (map-append (λ (d : Deed). d.event) done later)) (in_left (events_in done) (events_in later) event here)
 
+-- steps are stages
+pub deeds_of_steps : (deeds : List Deed) → deeds_in (steps deeds) ≡ deeds
+deeds_of_steps [] = refl
+deeds_of_steps (d ∷ deeds) = ap (λ (rest : List Deed). d ∷ rest) (deeds_of_steps deeds)
+
+module _ {P : Type 0} (does : P → (call : Call) → AnswerOf call → P → Type 0) (refuses : P → Call → PeerError → P → Type 0) (spoils : P → Entries → Entries → P → Type 0)
+    (holds : P → HeldStores → Type 0) (fact_on : P → FactRead) (view : List ℕ) (p : ℕ) where
+  pub did_leads : (deeds : List Deed) (x y : State) (s t : P) → Did does refuses p x s deeds y t → Leads does refuses spoils holds fact_on view p x s (steps deeds) y t
+  did_leads [] x y s t did = did
+  did_leads (d ∷ deeds) x y s t did = (did.0, did.1, did.2, did_leads deeds did.0 y did.1 t did.3)
+
 module _ {D : Type 0} (seen : D → Option (List ℕ)) (faults : D → ℕ) where
   abbrev does : OnDisks D → (call : Call) → AnswerOf call → OnDisks D → Type 0
   does = disks_do seen faults
@@ -81,13 +96,13 @@ module _ {D : Type 0} (seen : D → Option (List ℕ)) (faults : D → ℕ) wher
   fact_of view s t x (inr (inr on)) = (on.0, loaded on.0 (held_kept s.0.facts) 0 0 on.2.0)
 
   -- the event of a step is that of bytes that a look gave
-  of_looks : (w : PeerWords) (looks : List (Option (List ℕ))) (event : Event) → AreBytes looks → IsTickOrFrame w looks event → IsTickOrBytes w.me event
+  of_looks : (w : PeerWords) (looks : List (Option (List ℕ))) (event : Event) → AreBytes looks → IsTickOrFrame w looks event → IsOccasion w.me event
   of_looks w looks event bytes (inl tick) = inl tick
-  of_looks w looks event bytes (inr came) = inr (w, came.0, refl, bytes came.0 came.1, came.2)
+  of_looks w looks event bytes (inr came) = inr (inl (w, came.0, refl, bytes came.0 came.1, came.2))
 
   -- a start over stores that hold what was found, and some of the steps that followed
   module _ (w : PeerWords) (found : Found) (s t : OnDisks D) (x : State) (stands : StandsFor seen s (stores_found found)) (starts : Runs does refuses (start_of served_mode w.view) s [] (Finished x nothing) t [])
-      (deeds : List Deed) (events : (event : Event) → event ∈ events_in deeds → IsTickOrBytes w.me event) where
+      (deeds : List Deed) (events : (event : Event) → event ∈ events_in deeds → IsOccasion w.me event) where
     abbrev life_of : (done later : List Deed) (y : State) (left : OnDisks D) → deeds ≡ done ++ later → Did does refuses w.me x t done y left → IsLifeOf seen faults w found done
     life_of done later y left all did = record {
       opened = s;
@@ -97,8 +112,8 @@ module _ {D : Type 0} (seen : D → Option (List ℕ)) (faults : D → ℕ) wher
       starts = starts;
       last = y;
       left = left;
-      did = did;
-      events = λ event here. events event (subst (λ (ds : List Deed). event ∈ events_in ds) (sym all) (events_of_some done later event here));
+      leads = did_leads does refuses (AreSpoiled seen) (StandsFor seen) fact_on_disk w.view w.me done x y t left did;
+      events = λ event here. events event (subst (λ (ds : List Deed). event ∈ events_in ds) (sym all) (events_of_some done later event (subst (λ (ds : List Deed). event ∈ events_in ds) (deeds_of_steps done) here)));
     }
 
     -- its stores keep the fact of its last state
@@ -142,7 +157,7 @@ module _ {D L T : Type 0} (seen : D → Option (List ℕ)) (may_leave : D → Li
     stands : StandsFor seen served.on.stores (stores_found found)
     stands = opened_stand disks served.on.stores served.on.file served.on.opened nodes objects nodes_tell objects_tell fact.0 fact.1
 
-    events : (event : Event) → event ∈ events_in served.on.life.deeds → IsTickOrBytes w.me event
+    events : (event : Event) → event ∈ events_in served.on.life.deeds → IsOccasion w.me event
     events event here = of_looks seen faults w served.on.life.looks event bytes (served.on.events event here)
 
     abbrev life : (done later : List Deed) (y : State) (left : OnDisks D) → served.on.life.deeds ≡ done ++ later → Did (disks_do seen faults) (disks_refuse seen faults) w.me served.on.life.first.state served.on.life.first.stores done y left → IsLifeOf seen faults w found done

@@ -1,6 +1,7 @@
 -- What the processes of some peers do, in one order, and what their steps put out.
 use Rattle.std.specs.Prelude.{◌==◌, ◌+◌, ◌++◌, if◌then◌else◌, ℕ, List, [], ◌∷◌, map}
-use Rattle.process_laws.specs.Moments.{Found, Group, Moment, Starts, Takes, IsCutOff, peer_of}
+use Rattle.environment.specs.Maps.{Entries}
+use Rattle.process_laws.specs.Moments.{Found, Group, Moment, Starts, Takes, IsCutOff, peer_of, Spoils as spoils}
 use Rattle.process_laws.specs.GroupWitness.{nothing_found}
 use Rattle.register_model.specs.declared.answer.Answer.{Answer}
 use Rattle.register_model.specs.declared.note.Note.{Note}
@@ -9,18 +10,34 @@ use Rattle.peer_turns.specs.Deeds.{Deed}
 use Rattle.wire_frames.specs.declared.frame.Frame.{Frame}
 use Rattle.world_spec.specs.Runs.{frame_from}
 
--- A later process of a peer starts on what it finds on the disks; a process takes a step, to its end; or
--- it is cut off.
+-- A later process of a peer starts on what it finds on the disks; a process takes a step, to its end; between two
+-- steps the nodes and the objects on its disks become others; or it is cut off.
 pub data Act : Type 0 where
   Begins : (peer : ℕ) (found : Found) → Act
   Does : (peer : ℕ) (deed : Deed) → Act
+  Spoils : (peer : ℕ) (nodes objects : Entries) → Act
   Ends : (peer : ℕ) → Act
 
--- the life of a process: what it found on the disks when it started, and the steps that it took, each to
--- its end
+-- A stage in the life of a process: it takes a step, to its end, or the nodes and the objects on its disks become
+-- others. Some or all of these may be changed, lost, forgotten, or come back.
+pub data Stage : Type 0 where
+  Step : (deed : Deed) → Stage
+  Spoil : (nodes objects : Entries) → Stage
+
+-- the life of a process: what it found on the disks when it started, and what happened until it was cut off
 pub record Life : Type 0 where
   pub found : Found
-  pub deeds : List Deed
+  pub stages : List Stage
+
+-- these steps, on disks that answer as maps all the time
+abbrev pub steps : List Deed → List Stage
+steps deeds = map Step deeds
+
+-- the steps among these stages
+abbrev pub deeds_in : List Stage → List Deed
+deeds_in [] = []
+deeds_in (Step d ∷ stages) = d ∷ deeds_in stages
+deeds_in (Spoil nodes objects ∷ stages) = deeds_in stages
 
 -- Some peers, from 1 on; the view in which their ensemble opens; the lives of the processes of each peer,
 -- one after another; and what all of them did, in one order.
@@ -32,27 +49,33 @@ pub record Execution : Type 0 where
 
 -- ## One peer
 
--- a process takes these steps and is cut off, and then the rest follows
-abbrev pub and_deeds : ℕ → List Deed → List Act → List Act
-and_deeds p [] rest = Ends p ∷ rest
-and_deeds p (d ∷ ds) rest = Does p d ∷ and_deeds p ds rest
+-- a stage as an act
+abbrev pub act_of : ℕ → Stage → Act
+act_of p (Step d) = Does p d
+act_of p (Spoil nodes objects) = Spoils p nodes objects
+
+-- a process goes through these stages and is cut off, and then the rest follows
+abbrev pub and_stages : ℕ → List Stage → List Act → List Act
+and_stages p [] rest = Ends p ∷ rest
+and_stages p (s ∷ stages) rest = act_of p s ∷ and_stages p stages rest
 
 -- the acts of some lives after the first, one life after another
 abbrev pub later_acts : ℕ → List Life → List Act
 later_acts p [] = []
-later_acts p (l ∷ ls) = Begins p l.found ∷ and_deeds p l.deeds (later_acts p ls)
+later_acts p (l ∷ ls) = Begins p l.found ∷ and_stages p l.stages (later_acts p ls)
 
 -- The acts of all lives of a peer. Its first start is none of them: it finds no fact and puts nothing out, so
 -- it may as well come before all acts.
 abbrev pub acts_of : ℕ → List Life → List Act
 acts_of p [] = []
-acts_of p (l ∷ ls) = and_deeds p l.deeds (later_acts p ls)
+acts_of p (l ∷ ls) = and_stages p l.stages (later_acts p ls)
 
 -- ## As moments
 
 abbrev pub moment_of : Act → Moment
 moment_of (Begins p found) = Starts p found
 moment_of (Does p d) = Takes p d.event
+moment_of (Spoils p nodes objects) = spoils p nodes objects
 moment_of (Ends p) = IsCutOff p
 
 -- what the first process of a peer found; nothing, if there was none

@@ -5,13 +5,14 @@ use Rattle.ens_base.specs.declared.peer_words.PeerWords.{PeerWords}
 use Rattle.fact_store.specs.Keeping.{file_fact}
 use Rattle.stored_formats.specs.declared.saved.SavedFact.{SavedFact}
 use Rattle.process_laws.specs.Moments.{calls_of, run_of}
+use Rattle.process_laws.specs.Premises.{AreFew}
 use Rattle.peer_server.specs.declared.disks.Disks.{Disks}
 use Rattle.register_model.specs.declared.call.Call.{Call}
 use Rattle.process_laws.specs.Served.{HasLived}
 use Rattle.peer_turns.specs.Deeds.{Deed}
 use Rattle.world_spec.specs.Held.{HasNoClash}
 use Rattle.world_stores.specs.Facts.{kept_of}
-use Rattle.process_laws.specs.Acts.{Execution, Life, acts_of, group_of}
+use Rattle.process_laws.specs.Acts.{Execution, Life, acts_of, group_of, steps}
 use Rattle.process_laws.specs.Joined.{AreOnDisks}
 use Rattle.process_laws.specs.JoinedServed.{AreBytes, Tells, found_in}
 
@@ -19,9 +20,11 @@ use Rattle.process_laws.specs.JoinedServed.{AreBytes, Tells, found_in}
 abbrev pub alone : List Life → Execution
 alone lives = record { peers = 1; view = 1 ∷ []; lives = λ p. lives; acts = acts_of 1 lives }
 
--- what a lone peer cannot know: that its clients repeat no id, and that no two strings have one MD5
+-- what a lone peer cannot know: that its clients call it few times, on few keys, and repeat no id, and that no two
+-- strings have one MD5
 pub record MayBeLegal (e : Execution) : Type 0 where
-  pub few_acts : length e.acts < 2 ^ 32
+  pub few_acts : length e.acts < 2 ^ 64
+  pub few_calls : AreFew (calls_of (group_of e))
   pub distinct_calls : AreDistinct (map (λ (c : Call). c.id) (calls_of (group_of e)))
   pub no_clash : HasNoClash (run_of (group_of e)).hashed
 
@@ -48,7 +51,7 @@ module _ {D L T : Type 0} (seen : D → Option (List ℕ)) (may_leave : D → Li
 
   -- its life, if these steps count and it found this fact
   abbrev pub life_of : Process → Option SavedFact → List Deed → Life
-  life_of s fact deeds = record { found = found_in fact s.nodes s.objects; deeds = deeds }
+  life_of s fact deeds = record { found = found_in fact s.nodes s.objects; stages = steps deeds }
 
   -- these lives meet all premises of which a lone peer can know
   abbrev pub MeetAll : List Life → Type 0

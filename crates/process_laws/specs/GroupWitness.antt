@@ -4,7 +4,7 @@ use Rattle.stored_formats.specs.declared.saved.SavedFact.{SavedFact}
 use Rattle.peer_state.specs.declared.event.Event.TheVariants.{Tick, Deliver}
 use Rattle.wire_frames.specs.declared.message.Message.{Message}
 use Rattle.world_spec.specs.Runs.{Run}
-use Rattle.process_laws.specs.Moments.{Moment, Starts, Takes, IsCutOff, Found, Group, opening_of, run_on}
+use Rattle.process_laws.specs.Moments.{Moment, Starts, Takes, Spoils, IsCutOff, Found, Group, opening_of, run_on}
 use Rattle.process_laws.specs.Premises.{kept_by, node_of}
 
 -- nothing was found
@@ -27,9 +27,9 @@ lone_opening = opening_of (lone [])
 abbrev pub without_nodes : Run → Found
 without_nodes w = record { fact = kept_by (node_of w 1); nodes = []; top = None; objects = [] }
 
--- its first life: a step, and then it is cut off
+-- its first life: a step, all nodes are lost and an object comes, another step, and then it is cut off
 abbrev pub first_life : List Moment
-first_life = Takes 1 Tick ∷ IsCutOff 1 ∷ []
+first_life = Takes 1 Tick ∷ Spoils 1 [] ((4 ∷ [], 5 ∷ []) ∷ []) ∷ Takes 1 Tick ∷ IsCutOff 1 ∷ []
 
 -- its second life, on a disk of facts that survived and two that did not
 abbrev pub second_life : List Moment

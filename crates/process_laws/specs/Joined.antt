@@ -1,12 +1,15 @@
 -- What is assumed of an execution of several processes, each premise by a name, and what follows.
 use Rattle.std.specs.Prelude.{◌≡◌, ◌<◌, ◌≤◌, ◌^◌, ℕ, List, [], ◌∷◌, ◌++◌, map, length, Option}
 use Rattle.process_laws.specs.Memory.{StandsFor}
+use Rattle.disk_stores.specs.DiskCalls.{HoldsNodes, HoldsObjects}
 use Rattle.ens_base.specs.Lists.{◌∈◌, AreDistinct}
 use Rattle.ens_base.specs.View.{IsView}
+use Rattle.environment.specs.Maps.{Entries}
+use Rattle.environment.specs.MemStores.{Held as NodesHeld}
 use Rattle.fact_store.specs.Held.{held_kept}
 use Rattle.process_laws.specs.Laws.{IsRunOfProtocol}
 use Rattle.process_laws.specs.Moments.{run_of, calls_of, answers_of}
-use Rattle.process_laws.specs.Premises.{IsSound}
+use Rattle.process_laws.specs.Premises.{AreFew, IsSound}
 use Rattle.peer_server.specs.DiskPeers.{OnDisks, disks_do, disks_refuse}
 use Rattle.peer_state.specs.declared.event.Event.{Event}
 use Rattle.peer_state.specs.declared.event.Event.TheVariants as events
@@ -38,7 +41,7 @@ abbrev pub ArePutOut : List Frame → List Act → Type 0
 ArePutOut sent [] = Unit {0}
 ArePutOut sent (a ∷ acts) = WasPutOut sent a × ArePutOut (sent ++ frames_by a) acts
 
-module _ {P : Type 0} (does : P → (call : plans.Call) → AnswerOf call → P → Type 0) (refuses : P → plans.Call → PeerError → P → Type 0)
+module _ {P : Type 0} (does : P → (call : plans.Call) → AnswerOf call → P → Type 0) (refuses : P → plans.Call → PeerError → P → Type 0) (spoils : P → Entries → Entries → P → Type 0)
     (holds : P → HeldStores → Type 0) (fact_on : P → FactRead) where
   -- The processes are those of at most 31 peers of one view, and they lived their lives. In the common order
   -- the acts of each peer are those of its lives, one life after another; a message comes after it was put
@@ -47,13 +50,19 @@ module _ {P : Type 0} (does : P → (call : plans.Call) → AnswerOf call → P 
   pub record AreJoined (e : Execution) : Type 0 where
     pub few_peers : e.peers ≤ 31
     pub is_view : IsView e.view
-    pub few_acts : length e.acts < 2 ^ 32
+    pub few_acts : length e.acts < 2 ^ 64
+    pub few_calls : AreFew (calls_of (group_of e))
     pub of_peers : (a : Act) → a ∈ e.acts → IsAmong e.peers (actor a)
-    pub lived : (p : ℕ) → IsAmong e.peers p → AreLives does refuses holds fact_on e.view p (e.lives p)
+    pub lived : (p : ℕ) → IsAmong e.peers p → AreLives does refuses spoils holds fact_on e.view p (e.lives p)
     pub in_order : (p : ℕ) → IsAmong e.peers p → own_acts p e.acts ≡ acts_of p (e.lives p)
     pub messages_were_sent : ArePutOut [] e.acts
     pub distinct_calls : AreDistinct (map (λ (c : Call). c.id) (calls_of (group_of e)))
     pub no_clash : HasNoClash (run_of (group_of e)).hashed
+
+-- The order of the acts alone: each is one of the peers, and those of a peer are those of its lives, one after another.
+pub record AreInOrder (e : Execution) : Type 0 where
+  pub of_peers : (a : Act) → a ∈ e.acts → IsAmong e.peers (actor a)
+  pub in_order : (p : ℕ) → IsAmong e.peers p → own_acts p e.acts ≡ acts_of p (e.lives p)
 
 -- the processes are a sound group, which sends, answers and notes what their steps did
 pub record AreOneGroup (e : Execution) : Type 0 where
@@ -77,9 +86,18 @@ IsLinearizable e = (heard : List Answer) → WereGiven e heard → (key : List �
 abbrev pub fact_on_disk : {D : Type 0} → OnDisks D → FactRead
 fact_on_disk s = held_kept s.0.facts
 
+-- The nodes and the objects on disks became these, and from then on the disks answer as these maps do. The fact, the
+-- top record of the tree, and the root and the version of the open tree stay.
+pub record AreSpoiled {D : Type 0} (seen : D → Option (List ℕ)) (s : OnDisks D) (nodes objects : Entries) (t : OnDisks D) : Type 0 where
+  pub objects_held : HoldsObjects seen t.0.backend objects
+  pub nodes_held : (held : NodesHeld) → HoldsNodes seen s.0.tree.store held → HoldsNodes seen t.0.tree.store (record held { entries = nodes })
+  pub fact : held_kept t.0.facts ≡ held_kept s.0.facts
+  pub root : t.0.tree.top ≡ s.0.tree.top
+  pub version : t.0.tree.version ≡ s.0.tree.version
+
 -- the processes lived on disks that tell their bytes, and are joined
 abbrev pub AreOnDisks : {D : Type 0} → (D → Option (List ℕ)) → (D → ℕ) → Execution → Type 0
-AreOnDisks seen faults e = AreJoined (disks_do seen faults) (disks_refuse seen faults) (StandsFor seen) fact_on_disk e
+AreOnDisks seen faults e = AreJoined (disks_do seen faults) (disks_refuse seen faults) (AreSpoiled seen) (StandsFor seen) fact_on_disk e
 
 abbrev pub ProcessesAreOneGroup : {D : Type 0} → (D → Option (List ℕ)) → (D → ℕ) → Type 0
 ProcessesAreOneGroup seen faults = (e : Execution) → AreOnDisks seen faults e → AreOneGroup e

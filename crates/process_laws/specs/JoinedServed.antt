@@ -15,8 +15,9 @@ use Rattle.process_laws.specs.Served.{HasLived}
 use Rattle.slot_disk.specs.Crash.{LeavesOnly}
 use Rattle.peer_turns.specs.Deeds.{Deed}
 use Rattle.world_stores.specs.Facts.{kept_of}
+use Rattle.process_laws.specs.Acts.{steps}
 use Rattle.process_laws.specs.Lives as group
-use Rattle.process_laws.specs.Joined.{fact_on_disk}
+use Rattle.process_laws.specs.Joined.{AreSpoiled, fact_on_disk}
 
 -- the disk is there and tells these bytes
 abbrev pub Tells : {D : Type 0} → (D → Option (List ℕ)) → Option D → List ℕ → Type 0
@@ -34,7 +35,7 @@ found_in fact nodes objects = record { fact = fact; nodes = (nodes_of nodes).ent
 module _ {D : Type 0} (seen : D → Option (List ℕ)) (faults : D → ℕ) (w : PeerWords) (found : Found) where
   -- a process of the peer that found this took these steps, each to its end
   abbrev pub IsLifeOf : List Deed → Type 0
-  IsLifeOf deeds = group.HasLived (disks_do seen faults) (disks_refuse seen faults) (StandsFor seen) fact_on_disk w.view w.me (record { found = found; deeds = deeds })
+  IsLifeOf deeds = group.HasLived (disks_do seen faults) (disks_refuse seen faults) (AreSpoiled seen) (StandsFor seen) fact_on_disk w.view w.me (record { found = found; stages = steps deeds })
 
   -- this fact is the one that a life of some of these steps leaves
   pub record IsAfterSome (deeds : List Deed) (fact : group.FactRead) : Type 0 where

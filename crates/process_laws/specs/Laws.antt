@@ -2,16 +2,26 @@
 use Rattle.std.specs.Prelude.{◌≡◌, ◌+◌, ℕ, true, List, [], ◌∷◌, ◌++◌, length}
 use Rattle.ens_base.specs.Lists.{◌∈◌}
 use Rattle.world_refinement.specs.Worlds.{HasRun}
-use Rattle.process_laws.specs.Moments.{Group, Moment, answers_in, answers_of, calls_from, calls_of, opening_of, run_of, run_on}
+use Rattle.process_laws.specs.Moments.{Group, Moment, Takes, answers_in, answers_of, calls_from, calls_of, opening_of, run_of, run_on}
+use Rattle.peer_state.specs.declared.event.Event.TheVariants as events
 use Rattle.register_model.specs.Histories.{IsDone, IsLegal, StandsBefore}
 use Rattle.register_model.specs.Orders.{order}
 use Rattle.register_model.specs.declared.answer.Answer.{Answer}
 use Rattle.register_model.specs.declared.call.Call.{Call}
 use Rattle.role_laws.specs.Facts.{Lines}
 
--- every peer has a seal, so each is firm, and one view votes
+-- the views for which peers are asked
+abbrev pub view_in : Moment → List (List ℕ) → List (List ℕ)
+view_in (Takes p (events.Change view)) rest = view ∷ rest
+view_in m rest = rest
+
+abbrev pub views_in : List Moment → List (List ℕ)
+views_in [] = []
+views_in (m ∷ ms) = view_in m (views_in ms)
+
+-- every peer has a seal, so each is firm; the opening view and those for which peers are asked may vote
 abbrev pub lines_of : Group → Lines
-lines_of g = record { sealed = true; firm = λ p. true; voting = g.view ∷ [] }
+lines_of g = record { sealed = true; firm = λ p. true; voting = g.view ∷ views_in g.moments }
 
 -- all that happened to the group agrees with a run of the abstract protocol: its peers, all that they sent
 -- and all that they noted

@@ -3,6 +3,7 @@ pub mod Served
 pub mod Moments
 pub mod Premises
 pub mod GroupWitness
+pub mod GroupStory
 pub mod Laws
 pub mod Memory
 pub mod Acts
@@ -11,4 +12,6 @@ pub mod Clients
 pub mod Joined
 pub mod JoinedServed
 pub mod Alone
+pub mod Processes
 pub mod ProcessWitness
+pub mod Story

@@ -11,7 +11,7 @@ use Rattle.register_model.specs.declared.printed.Printed.TheVariants as printed
 use Rattle.schedule_text.specs.declared.form.Form.TheVariants.{Three}
 use Rattle.tree_node.specs.declared.version.TreeVersion.TheVariants.{Two}
 use Rattle.world_spec.specs.Held.{HeldStores}
-use Rattle.world_spec.specs.Nodes.{Node, Down, hashed_by_start, started, stopped}
+use Rattle.world_spec.specs.Nodes.{Node, Down, hashed_by_start, over_stores, started, stopped}
 use Rattle.world_spec.specs.Runs.{Run, next_event, opening_mode, opening_run, stepped, changed, with_start}
 use Rattle.world_stores.specs.Faults.{no_faults}
 
@@ -23,17 +23,20 @@ pub record Found : Type 0 where
   pub top : Option (List ℕ)
   pub objects : Entries
 
--- A process of a peer starts on what it finds, takes a step on an event, or is cut off between two steps.
+-- A process of a peer starts on what it finds, takes a step on an event, or is cut off between two steps. Between
+-- two steps its nodes and objects may also become others: some or all are changed, lost, forgotten, or come back.
 -- The moment of a step is the one at which it comes to its end.
 pub data Moment : Type 0 where
   Starts : (peer : ℕ) (found : Found) → Moment
   Takes : (peer : ℕ) (event : Event) → Moment
+  Spoils : (peer : ℕ) (nodes objects : Entries) → Moment
   IsCutOff : (peer : ℕ) → Moment
 
 -- the peer of a moment
 abbrev pub peer_of : Moment → ℕ
 peer_of (Starts p found) = p
 peer_of (Takes p event) = p
+peer_of (Spoils p nodes objects) = p
 peer_of (IsCutOff p) = p
 
 -- the records that the top record of a tree held, as far as its disk tells them
@@ -53,10 +56,16 @@ stores_found f = record {
 abbrev pub down_on : Found → Node → Node
 down_on f node = Down (stores_found f)
 
+-- these stores with other nodes and objects; the saved fact, the top records, and the root and the version of a tree
+-- that is open stay
+abbrev pub with_contents : Entries → Entries → HeldStores → HeldStores
+with_contents nodes objects s = record s { backend = record s.backend { entries = objects }; tree = record s.tree { store = record s.tree.store { entries = nodes } } }
+
 -- the effect of a moment; a message that comes stays in the mail, for it may come again
 abbrev pub happened : Moment → Run → Run
 happened (Starts p found) w = with_start p (changed p (down_on found) w)
 happened (Takes p event) w = stepped p event w
+happened (Spoils p nodes objects) w = changed p (over_stores (with_contents nodes objects)) w
 happened (IsCutOff p) w = changed p stopped w
 
 -- the world after a moment, which is one event of it

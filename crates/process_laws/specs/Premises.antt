@@ -11,7 +11,7 @@ use Rattle.wire_frames.specs.declared.frame.Frame.{Frame}
 use Rattle.world_spec.specs.Held.{HasNoClash}
 use Rattle.world_spec.specs.Nodes.{Node, Up, Down}
 use Rattle.world_spec.specs.Runs.{Run, place_of}
-use Rattle.process_laws.specs.Moments.{Moment, Starts, Takes, IsCutOff, Group, peer_of, after, opening_of, run_of, calls_of}
+use Rattle.process_laws.specs.Moments.{Moment, Starts, Takes, Spoils, IsCutOff, Group, peer_of, after, opening_of, run_of, calls_of}
 
 -- of each of these moments and the world in which it happens
 abbrev pub Always : (Run → Moment → Type 0) → List Moment → Run → Type 0
@@ -39,10 +39,12 @@ IsDown other = ⊥
 abbrev pub IsOfPeers : ℕ → Run → Moment → Type 0
 IsOfPeers peers w m = IsAmong peers (peer_of m)
 
--- One process of a peer at a time: it starts while none runs, and one that takes a step or is cut off runs.
+-- One process of a peer at a time: it starts while none runs, and one that takes a step, whose nodes and objects
+-- become others, or that is cut off runs.
 abbrev pub IsOneProcess : Run → Moment → Type 0
 IsOneProcess w (Starts p found) = IsDown (node_of w p)
 IsOneProcess w (Takes p event) = IsRunning (node_of w p)
+IsOneProcess w (Spoils p nodes objects) = IsRunning (node_of w p)
 IsOneProcess w (IsCutOff p) = IsRunning (node_of w p)
 
 -- the fact that a peer saved last
@@ -63,17 +65,26 @@ abbrev pub WasSent : Run → Moment → Type 0
 WasSent w (Takes p (events.Deliver from message)) = let f : Frame = record { from = from; to = p; message = message } in f ∈ w.mail.sent
 WasSent w m = Unit {0}
 
--- A call keeps the limits of a frame. No frame asks for another view, so no process is asked for one.
-abbrev pub IsFromFrames : Run → Moment → Type 0
-IsFromFrames w (Takes p (events.Call c)) = (c.id < 2 ^ 64) × IsKey c.key × IsCommand c.command
-IsFromFrames w (Takes p (events.Change view)) = ⊥
-IsFromFrames w m = Unit {0}
+-- A call keeps the limits of a frame, and a peer is asked for a view alone.
+abbrev pub IsWithinLimits : Run → Moment → Type 0
+IsWithinLimits w (Takes p (events.Call c)) = (c.id < 2 ^ 64) × IsKey c.key × IsCommand c.command
+IsWithinLimits w (Takes p (events.Change view)) = IsView view
+IsWithinLimits w m = Unit {0}
+
+-- These calls are fewer than 2^60, and on fewer than 2^32 keys: a step makes some turns for each call that is
+-- unanswered, and counts its turns in eight bytes; a segment of a tree counts its entries in four.
+pub record AreFew (calls : List Call) : Type 0 where
+  pub few : length calls < 2 ^ 60
+  pub keys : List (List ℕ)
+  pub few_keys : length keys < 2 ^ 32
+  pub own_key : (c : Call) → c ∈ calls → c.key ∈ keys
 
 -- the premises of the laws of groups
 pub record IsSound (g : Group) : Type 0 where
   pub few_peers : g.peers ≤ 31
   pub is_view : IsView g.view
-  pub few_moments : length g.moments < 2 ^ 32
+  pub few_moments : length g.moments < 2 ^ 64
+  pub few_calls : AreFew (calls_of g)
   pub of_peers : AlwaysIn g (IsOfPeers g.peers)
   -- the first process of a peer finds no fact, and any nodes and objects: one that was cut off before it saved a
   -- fact may have left some
@@ -81,6 +92,6 @@ pub record IsSound (g : Group) : Type 0 where
   pub one_process : AlwaysIn g IsOneProcess
   pub facts_survive : AlwaysIn g FactSurvives
   pub messages_were_sent : AlwaysIn g WasSent
-  pub calls_keep_limits : AlwaysIn g IsFromFrames
+  pub events_keep_limits : AlwaysIn g IsWithinLimits
   pub distinct_calls : AreDistinct (map (λ (c : Call). c.id) (calls_of g))
   pub no_clash : HasNoClash (run_of g).hashed

@@ -8,12 +8,12 @@
 //! Peers that run as processes of their own: what happens to a group of them, and what is assumed of it.
 //! There is no code that runs.
 //!
-//! A process of a peer starts on the disks of its peer, takes steps, and is cut off; later another one
-//! starts on these disks. `specs/Moments` has the moments of such lives, of several peers in any order,
+//! A process of a peer starts on the disks of its peer, takes steps, between which nodes and objects may
+//! be changed or lost, and is cut off; later another one starts on these disks. `specs/Moments` has the moments of such lives, of several peers in any order,
 //! and the world after them. `specs/Premises` has each premise by a name of its own: a first process that
 //! finds no fact, one process of a peer at a time, facts that survive, messages that were sent before they
 //! come, calls with ids of their own, and no two strings with one MD5. `specs/GroupWitness` has a peer that meets
-//! them, and groups that break one.
+//! them, and groups that break one. A peer may be asked for another view of the ensemble at any step.
 //!
 //! A group of peers that run as processes of their own is one run of the abstract protocol, and its
 //! histories are legal. There is no code that runs.
@@ -36,8 +36,9 @@
 //! `specs/Acts` has what the processes do, in one order, and what their steps put out. `specs/Lives` says
 //! what a life is, from the stores that a process opened to those that it left. `specs/Joined` has the
 //! premises by name, and what follows from them, and `specs/Clients` what clients see of it. `specs/JoinedServed`
-//! ties the lives to what `serve` promises, and `specs/Alone` says of a peer that served alone that it meets
-//! the premises. `specs/ProcessWitness` has two lives that meet them, and executions that break one.
+//! ties the lives to what `serve` promises, `specs/Processes` joins any number of processes of several peers,
+//! and `specs/Alone` says of a peer that served alone that it meets the premises. `specs/ProcessWitness` has two
+//! lives that meet them, and executions that break one, and `specs/Story` two peers that complete calls.
 #![tactic(auto)]
 
 mod disk_laws;
@@ -50,8 +51,11 @@ pub use disk_laws::disks_run_as_maps;
 pub use group_laws::{
     a_lone_peer_may_serve_twice, a_lone_process_may_live_twice, premises_can_be_broken,
     processes_are_linearizable, processes_are_one_group, processes_refine_the_protocol,
-    served_lives_may_be_joined,
+    served_lives_may_be_joined, served_peers_may_be_joined, two_peers_may_complete_calls,
 };
-pub use life_laws::{a_lone_peer_may_live_twice, group_premises_can_be_broken};
+pub use life_laws::{
+    a_group_may_complete_calls, a_lone_peer_may_live_twice, fewer_moments_have_few_calls,
+    group_premises_can_be_broken,
+};
 pub use refinement_laws::{groups_have_legal_histories, groups_refine_the_protocol};
 pub use served_laws::served_peers_lived;

@@ -19,9 +19,9 @@ use Rattle.scripts.specs.declared.script.RootScript.{RootScript}
 use Rattle.schedule_input.specs.declared.ending.Ending.{Ending}
 use Rattle.schedule_input.specs.declared.read.ReadError.{ReadError}
 use Rattle.schedule_input.specs.declared.read.ReadError.TheVariants as read
-use Rattle.root.specs.Ends.{IsStopped, PassesIn, RejectsIn}
+use Rattle.root.specs.Ends.{IsStopped, RejectsIn}
 use Rattle.root.proofs.Steps.{rejects_filled, rejects_whole}
-use Rattle.replay.specs.WorldModel.{IsCutOff, WorldError, BookFull, Clash}
+use Rattle.replay.specs.WorldModel.{WorldError, BookFull, Clash, MessageLimit}
 use Rattle.root.specs.Hashed.{hashed_by}
 use Rattle.root.specs.Jobs.{EndsSo, HasRead, IsLegalRoot, PrintsWith}
 use Rattle.root.specs.Worlds.{AreWithin, worlds}
@@ -33,41 +33,41 @@ module _ (first now : Account) (s : RootScript) where
       let all : HasAdmitted (hashed_by s) first now = record { has = has; apart = apart; fit = λ limit is. (kept_once (hashed_by s) limit now.kept (subst (λ (k : Option Book). HasTaken (hashed_by s) k now.kept) is has.taken)).1 } in
       (s, read, of, is, within, all, legal)
 
-  pub clash_ends : (kept new text : List ℕ) → RejectsIn s first (λ strings mid. HasClashed strings mid kept new now) → text ≡ clash_line kept new → EndsSo first now s Status.Clash text
-  clash_ends kept new text rejects is source read = by source read
+  pub clash_ends : (kept new text : List ℕ) → IsStopped s first now (Clash kept new) → text ≡ clash_line kept new → EndsSo first now s Status.Clash text
+  clash_ends kept new text stopped is source read = by source read
     where
       has : HasClashed (hashed_by s) first kept new now
-      has = rejects_whole s first now (Clash kept new) rejects
+      has = rejects_whole s first now (Clash kept new) stopped.0
 
       by : (source : Option (List ℕ)) → IfSome source (λ bytes. script_of bytes ≡ Ok s) → PrintsWith first now source Status.Clash text
       by None read = (kept, new, has.1, has.3, is, tt)
-      by (Some bytes) read = (kept, new, has.1, has.3, is, (s, read, has, rejects))
+      by (Some bytes) read = (kept, new, has.1, has.3, is, (s, read, has, stopped.0, stopped.1))
 
-  book_ends : (n : ℕ) (text : List ℕ) → RejectsIn s first (λ strings mid. IsCutOff strings mid now (BookFull n)) → text ≡ codes "limit book 1073741824" ++ 10 ∷ [] → EndsSo first now s Status.Limit text
+  book_ends : (n : ℕ) (text : List ℕ) → IsStopped s first now (BookFull n) → text ≡ codes "limit book 1073741824" ++ 10 ∷ [] → EndsSo first now s Status.Limit text
   book_ends n text stops is source read = by source read
     where
       has : HasFilled (hashed_by s) first now
-      has = let whole = rejects_whole s first now (BookFull n) stops in whole.0
+      has = let whole = rejects_whole s first now (BookFull n) stops.0 in whole.0
 
       rejects : RejectsIn s first (λ strings mid. HasFilled strings mid now)
-      rejects = rejects_filled s first now n stops
+      rejects = rejects_filled s first now n stops.0
 
       by : (source : Option (List ℕ)) → IfSome source (λ bytes. script_of bytes ≡ Ok s) → PrintsWith first now source Status.Limit text
       by None read = inr (inr (has.2, tt, is))
-      by (Some bytes) read = inr (inr (has.2, (s, read, has, rejects), is))
+      by (Some bytes) read = inr (inr (has.2, (s, read, has, rejects, (n, stops.1)), is))
 
-  limit_ends : (text : List ℕ) → PassesIn s first → text ≡ codes "limit messages 500000" ++ 10 ∷ [] → EndsSo first now s Status.Limit text
+  limit_ends : (text : List ℕ) → IsStopped s first now MessageLimit → text ≡ codes "limit messages 500000" ++ 10 ∷ [] → EndsSo first now s Status.Limit text
   limit_ends text past is source read = by source read
     where
       by : (source : Option (List ℕ)) → IfSome source (λ bytes. script_of bytes ≡ Ok s) → PrintsWith first now source Status.Limit text
       by None read = inr (inl (tt, is))
-      by (Some bytes) read = inr (inl ((s, read, past), is))
+      by (Some bytes) read = inr (inl ((s, read, past.0, past.1), is))
 
-  pub book_ending : {E : Type 0} (r : Result Ending E) (line : List ℕ) → line ≡ codes "limit book 1073741824" ++ 10 ∷ [] → IfOk r (λ e. (e.status ≡ Status.Limit) × (string_bytes e.text ≡ line)) → (n : ℕ) → RejectsIn s first (λ strings mid. IsCutOff strings mid now (BookFull n)) → IfOk r (λ e. EndsSo first now s e.status (string_bytes e.text))
+  pub book_ending : {E : Type 0} (r : Result Ending E) (line : List ℕ) → line ≡ codes "limit book 1073741824" ++ 10 ∷ [] → IfOk r (λ e. (e.status ≡ Status.Limit) × (string_bytes e.text ≡ line)) → (n : ℕ) → IsStopped s first now (BookFull n) → IfOk r (λ e. EndsSo first now s e.status (string_bytes e.text))
   book_ending (Ok e) line is made n stops = subst (λ (status : Status). EndsSo first now s status (string_bytes e.text)) (sym made.0) (book_ends n (string_bytes e.text) stops (made.1 ∙ is))
   book_ending (Err e) line is made n stops = tt
 
-  pub limit_ending : {E : Type 0} (r : Result Ending E) (line : List ℕ) → line ≡ codes "limit messages 500000" ++ 10 ∷ [] → IfOk r (λ e. (e.status ≡ Status.Limit) × (string_bytes e.text ≡ line)) → PassesIn s first → IfOk r (λ e. EndsSo first now s e.status (string_bytes e.text))
+  pub limit_ending : {E : Type 0} (r : Result Ending E) (line : List ℕ) → line ≡ codes "limit messages 500000" ++ 10 ∷ [] → IfOk r (λ e. (e.status ≡ Status.Limit) × (string_bytes e.text ≡ line)) → IsStopped s first now MessageLimit → IfOk r (λ e. EndsSo first now s e.status (string_bytes e.text))
   limit_ending (Ok e) line is made past = subst (λ (status : Status). EndsSo first now s status (string_bytes e.text)) (sym made.0) (limit_ends (string_bytes e.text) past (made.1 ∙ is))
   limit_ending (Err e) line is made past = tt
 

@@ -26,7 +26,7 @@ use Rattle.replay.specs.WorldModel.{IsCutOff, MayRefuse, run_of, WorldError, Boo
 use Rattle.world_spec.specs.Lines.{applied}
 use Rattle.world_spec.specs.Messages.{IsWithinMessages}
 use Rattle.world_spec.specs.Runs.{opening_run, unhashed}
-use Rattle.root.specs.Ends.{CameTo, IsStopped, PassesIn, PassesLimit, PassesWith, RejectsIn, as_opening}
+use Rattle.root.specs.Ends.{CameTo, IsStopped, PassesIn, PassesLimit, PassesWith, RejectsIn, StopsIn, StopsLine, as_opening}
 use Rattle.root.specs.Hashed.{hashed_by, hashed_until, line_hashed, lines_hashed, opened_hashed, opened_since, own_hashed}
 use Rattle.root.specs.Standing.{Goes, RunsSlot, Stands, line_at, open_line}
 use Rattle.root.specs.Worlds.{AreWithin, branch_run, events_in, newest, world, worlds}
@@ -74,6 +74,13 @@ module _ (s : RootScript) (next : Roots) (Passes : Type 0) where
   goes_within Other strings first now w (Err Memory) not goes = tt
   goes_within Other strings first now w (Err (Clash kept new)) not goes = goes
   goes_within Other strings first now w (Err (BookFull bytes)) not goes = goes
+
+  -- such a call was refused by the hasher
+  pub goes_cut : (T : Type 0) (strings : List (List ℕ)) (first now : Account) (w : RootWorlds) (e : WorldError) → (e ≡ MessageLimit → ⊥) → Goes {T = T} s next strings Passes first now w (Err e) → IsCutOff strings first now e
+  goes_cut T strings first now w MessageLimit not goes = absurd (not refl)
+  goes_cut T strings first now w Memory not goes = tt
+  goes_cut T strings first now w (Clash kept new) not goes = goes
+  goes_cut T strings first now w (BookFull bytes) not goes = goes
 
   -- the strings are the same
   pub goes_same : {T : Type 0} (strings others : List (List ℕ)) (first now : Account) (w : RootWorlds) (r : Result T WorldError) → strings ≡ others → Goes s next strings Passes first now w r → Goes s next others Passes first now w r
@@ -189,7 +196,7 @@ module _ (s : RootScript) (number slot : ℕ) (event : ScheduleEvent) (r : Roots
 
   -- the slot is shut
   module _ (none : get nat_cmp old.slots slot ≡ None) where
-    shut : r.slots slot ≡ None
+    pub shut : r.slots slot ≡ None
     shut = at (r.slots slot) refl (subst (λ (x : Option World). RunsSlot s (r.slots slot) x) none (h.slots slot))
       where
         at : (o : Option Branch) → r.slots slot ≡ o → RunsSlot s (r.slots slot) None → r.slots slot ≡ None
@@ -284,18 +291,25 @@ module _ (s : RootScript) (place : ℕ) (first : Account) (old new : RootWorlds)
   rejects_line : (e : WorldError) → IsCutOff (line_hashed s (place + 1) line so_far) mid now e → RejectsIn s first (λ strings m. IsCutOff strings m now e)
   rejects_line e cut = inr (before, line, mid, at_line, subst (λ (k : ℕ). IsCutOff (line_hashed s k line so_far) mid now e) (sym number) cut)
 
-  pub stops : (T : Type 0) (e : WorldError) → Goes {T = T} s (step worlds s (place + 1) line so_far) (line_hashed s (place + 1) line so_far) (PassesWith s so_far (ensemble_of line) (own_event line)) mid now new (Err e) → IsStopped s first now e
-  stops T MessageLimit passes = record { done = before; line = line; mid = mid; came = at_line; passes = passes }
-  stops T Memory goes = inl tt
-  stops T (Clash kept new) goes = rejects_line (Clash kept new) goes
-  stops T (BookFull bytes) goes = rejects_line (BookFull bytes) goes
+  stops_there : (e : WorldError) → StopsLine s (place + 1) line so_far mid now e → StopsIn s first now e
+  stops_there e there = inr (before, line, mid, at_line, subst (λ (k : ℕ). StopsLine s k line so_far mid now e) (sym number) there)
+
+  pub stops : (T : Type 0) (e : WorldError) → Goes {T = T} s (step worlds s (place + 1) line so_far) (line_hashed s (place + 1) line so_far) (PassesWith s so_far (ensemble_of line) (own_event line)) mid now new (Err e) → StopsLine s (place + 1) line so_far mid now e → IsStopped s first now e
+  stops T MessageLimit passes there = (record { done = before; line = line; mid = mid; came = at_line; passes = passes }, stops_there MessageLimit there)
+  stops T Memory goes there = (inl tt, inl tt)
+  stops T (Clash kept new) goes there = (rejects_line (Clash kept new) goes, stops_there (Clash kept new) there)
+  stops T (BookFull bytes) goes there = (rejects_line (BookFull bytes) goes, stops_there (BookFull bytes) there)
 
 -- the opening was cut off
 pub opening_stops : (s : RootScript) (first now : Account) (e : WorldError) → IsCutOff (opening_run newest s.peers s.view).hashed first now e → IsStopped s first now e
 opening_stops s first now MessageLimit cut = absurd cut
-opening_stops s first now Memory cut = inl tt
-opening_stops s first now (Clash kept new) cut = inl (subst (λ (l : List (List ℕ)). IsCutOff l first now (Clash kept new)) (sym (append-nil (opening_run newest s.peers s.view).hashed)) cut)
-opening_stops s first now (BookFull bytes) cut = inl (subst (λ (l : List (List ℕ)). IsCutOff l first now (BookFull bytes)) (sym (append-nil (opening_run newest s.peers s.view).hashed)) cut)
+opening_stops s first now Memory cut = (inl tt, inl tt)
+opening_stops s first now (Clash kept new) cut =
+    let all = subst (λ (l : List (List ℕ)). IsCutOff l first now (Clash kept new)) (sym (append-nil (opening_run newest s.peers s.view).hashed)) cut in
+    (inl all, inl all)
+opening_stops s first now (BookFull bytes) cut =
+    let all = subst (λ (l : List (List ℕ)). IsCutOff l first now (BookFull bytes)) (sym (append-nil (opening_run newest s.peers s.view).hashed)) cut in
+    (inl all, inl all)
 
 -- ## What a run that ended in a line says of the whole
 

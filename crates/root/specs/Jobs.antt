@@ -16,7 +16,8 @@ use Rattle.scripts.specs.RootReading.{script_of}
 use Rattle.scripts.specs.Spelling.{IsScript}
 use Rattle.scripts.specs.declared.script.RootScript.{RootScript}
 use Rattle.schedule_text.specs.declared.error.ScheduleError.TheVariants as schedule
-use Rattle.root.specs.Ends.{PassesIn, PassesLimit, RejectsIn}
+use Rattle.root.specs.Ends.{PassesIn, PassesLimit, RejectsIn, StopsIn}
+use Rattle.replay.specs.WorldModel.{BookFull, Clash, MessageLimit}
 use Rattle.root.specs.Hashed.{hashed_by}
 use Rattle.root.specs.Worlds.{AreWithin, worlds}
 
@@ -29,21 +30,21 @@ IsLegalRoot s = HasNoClash (hashed_by s) → IsLegalRun worlds s
 abbrev pub IsRootRun : Account → Account → List ℕ → List ℕ → Type 0
 IsRootRun first now bytes text = (s : RootScript) × (script_of bytes ≡ Ok s) × IsScript s × IsTextOf worlds s text × AreWithin s (roots_after worlds s) × HasAdmitted (hashed_by s) first now × IsLegalRoot s
 
--- the hasher rejected the next string of the run, which clashes with one that it keeps, while the lines before stay
--- within the limit on messages, and the text reports both
+-- the hasher rejected the next string of the run, which clashes with one that it keeps, while what comes before that
+-- string stays within the limit on messages, and the text reports both
 abbrev pub IsClashText : Account → Account → Option (List ℕ) → List ℕ → Type 0
 IsClashText first now source text =
-    (kept : List ℕ) × (new : List ℕ) × IsClash kept new × Rose first.clashes now.clashes × (text ≡ clash_line kept new) × IfSome source (λ bytes. (s : RootScript) × (script_of bytes ≡ Ok s) × HasClashed (hashed_by s) first kept new now × RejectsIn s first (λ strings mid. HasClashed strings mid kept new now))
+    (kept : List ℕ) × (new : List ℕ) × IsClash kept new × Rose first.clashes now.clashes × (text ≡ clash_line kept new) × IfSome source (λ bytes. (s : RootScript) × (script_of bytes ≡ Ok s) × HasClashed (hashed_by s) first kept new now × RejectsIn s first (λ strings mid. HasClashed strings mid kept new now) × StopsIn s first now (Clash kept new))
 
--- an ensemble would send message 500,001, with a line before which the hasher took every string, and the text reports it
-abbrev pub IsMessageLimit : Account → Option (List ℕ) → List ℕ → Type 0
-IsMessageLimit first source text = IfSome source (λ bytes. (s : RootScript) × (script_of bytes ≡ Ok s) × PassesIn s first) × (text ≡ codes "limit messages 500000" ++ 10 ∷ [])
+-- an ensemble would send message 500,001, in a turn until which the hasher took every string, and the text reports it
+abbrev pub IsMessageLimit : Account → Account → Option (List ℕ) → List ℕ → Type 0
+IsMessageLimit first now source text = IfSome source (λ bytes. (s : RootScript) × (script_of bytes ≡ Ok s) × PassesIn s first × StopsIn s first now MessageLimit) × (text ≡ codes "limit messages 500000" ++ 10 ∷ [])
 
--- the next string of the run did not fit into the book of the hasher, while the lines before stay within the limit on
--- messages, and the text reports the limit of the book of `root`
+-- the next string of the run did not fit into the book of the hasher, while what comes before that string stays within
+-- the limit on messages, and the text reports the limit of the book of `root`
 abbrev pub IsBookLimit : Account → Account → Option (List ℕ) → List ℕ → Type 0
 IsBookLimit first now source text =
-    Rose first.fulls now.fulls × IfSome source (λ bytes. (s : RootScript) × (script_of bytes ≡ Ok s) × HasFilled (hashed_by s) first now × RejectsIn s first (λ strings mid. HasFilled strings mid now)) × (text ≡ codes "limit book 1073741824" ++ 10 ∷ [])
+    Rose first.fulls now.fulls × IfSome source (λ bytes. (s : RootScript) × (script_of bytes ≡ Ok s) × HasFilled (hashed_by s) first now × RejectsIn s first (λ strings mid. HasFilled strings mid now) × ((kept : ℕ) × StopsIn s first now (BookFull kept))) × (text ≡ codes "limit book 1073741824" ++ 10 ∷ [])
 
 -- The text that the job prints of these bytes, for each status, with a hasher that it leads from one account to the
 -- other. It ends with no other status, unless the output fails.
@@ -51,7 +52,7 @@ abbrev pub PrintsWith : Account → Account → Option (List ℕ) → Status →
 PrintsWith first now source Status.Done text = IfSome source (λ bytes. IsRootRun first now bytes text)
 PrintsWith first now source Status.Schedule text = IsBadLine source text
 PrintsWith first now source Status.Clash text = IsClashText first now source text
-PrintsWith first now source Status.Limit text = IsLineLimit source text ⊎ (IsMessageLimit first source text ⊎ IsBookLimit first now source text)
+PrintsWith first now source Status.Limit text = IsLineLimit source text ⊎ (IsMessageLimit first now source text ⊎ IsBookLimit first now source text)
 PrintsWith first now source Status.ReadFault text = text ≡ codes "read fault" ++ 10 ∷ []
 PrintsWith first now source Status.Memory text = text ≡ codes "memory" ++ 10 ∷ []
 PrintsWith first now source status text = ⊥

@@ -13,9 +13,10 @@ ghost use Rattle.scripts.specs.declared.event.RootEvent.{RootEvent as RootLine};
 ghost use Rattle.scripts.specs.declared.slots.Ensemble.TheVariants.{Root, Slot};
 ghost use Rattle.schedule_text.specs.Spelling.{MayStand};
 ghost use Rattle.replay.specs.WorldModel.{IsCutOff, Reaches, run_of};
+ghost use Rattle.world_model.specs.Turns.{StopsAmong, turn, turns_of};
 ghost use Rattle.world_spec.specs.Lines.{applied};
 ghost use Rattle.world_spec.specs.Runs.{opening_run, unhashed};
-ghost use Rattle.root.specs.Ends.{PassesWith};
+ghost use Rattle.root.specs.Ends.{PassesWith, StopsEvent, StopsLine};
 ghost use Rattle.root.specs.Hashed.{line_hashed, opened_hashed, opened_since, own_hashed};
 ghost use Rattle.root.specs.Standing.{ArePlaces, Goes, Stands, Stood, line_at, open_line};
 ghost use Rattle.root.specs.Worlds.{events_in, newest, worlds};
@@ -79,6 +80,7 @@ fn apply_in<H: Hasher16, R: Threads + Sync>(
 ) -> Result<usize, WorldError>
     requires { MayStand (length world.old.peers.items) event.now }
     ensures reaches { Reaches (account H.kept H.clashes H.fulls hasher.old) (applied event.now (run_of world.old)) result (run_of world.new) (account H.kept H.clashes H.fulls hasher.new) }
+    ensures stops { IfErr result (StopsAmong (turns_of event.now) (turn event.now) (run_of world.old) (account H.kept H.clashes H.fulls hasher.old) (account H.kept H.clashes H.fulls hasher.new)) }
     ensures before { IfOk result (λ n. n ≡ length (run_of world.old).printed) }
     ensures text { OnOk result (string_bytes text.new ≡ string_bytes text.old ++ flat_map (line_at number ensemble) (drop (length (run_of world.old).printed) (run_of world.new).printed)) }
 {
@@ -259,6 +261,9 @@ impl RootWorlds {
             ++ opened_hashed script.now (opened_since r (in_root worlds script.now number event.now r)))
             (PassesWith script.now r Root event.now) (account H.kept H.clashes H.fulls hasher.old)
             (account H.kept H.clashes H.fulls hasher.new) self.new result }
+        ensures stops { (r : Roots) → Stands script.now r self.old
+            → IfErr result (StopsEvent script.now r (in_root worlds script.now number event.now r) Root event.now
+            (account H.kept H.clashes H.fulls hasher.old) (account H.kept H.clashes H.fulls hasher.new)) }
     {
         let before = apply_in(
             rt,
@@ -292,6 +297,10 @@ impl RootWorlds {
             (own_hashed script.now event.now (events_in script.now r (Slot slot)))
             (PassesWith script.now r (Slot slot) event.now) (account H.kept H.clashes H.fulls hasher.old)
             (account H.kept H.clashes H.fulls hasher.new) self.new result }
+        ensures stops { (r : Roots) → Stands script.now r self.old
+            → IfErr result (StopsEvent script.now r
+            (in_slot worlds script.now number slot event.now (r.slots slot) r) (Slot slot) event.now
+            (account H.kept H.clashes H.fulls hasher.old) (account H.kept H.clashes H.fulls hasher.new)) }
     {
         match self.slots.get_mut(&slot) {
             Some(world) => {
@@ -332,6 +341,9 @@ impl RootWorlds {
             (PassesWith script.now r (ensemble_in event.now) (own_of event.now))
             (account H.kept H.clashes H.fulls hasher.old) (account H.kept H.clashes H.fulls hasher.new) self.new
             result }
+        ensures stops { (r : Roots) → Stands script.now r self.old
+            → IfErr result (StopsLine script.now number event.now r (account H.kept H.clashes H.fulls hasher.old)
+            (account H.kept H.clashes H.fulls hasher.new)) }
     {
         let own = own_event(alloc, event)?;
         match ensemble_of(alloc, event, hasher)? {
@@ -362,6 +374,10 @@ impl RootWorlds {
             (line_hashed script.now (place + 1) line r) (PassesWith script.now r (ensemble_in line) (own_of line))
             (account H.kept H.clashes H.fulls hasher.old) (account H.kept H.clashes H.fulls hasher.new) self.new
             result }
+        ensures stops { (r : Roots) (line : RootLine) → slice_get script.now.events place ≡ Some line
+            → Stands script.now r self.old
+            → IfErr result (StopsLine script.now (place + 1) line r (account H.kept H.clashes H.fulls hasher.old)
+            (account H.kept H.clashes H.fulls hasher.new)) }
     {
         let number = place as u32 + 1;
         let event = &script.events.as_slice()[place];

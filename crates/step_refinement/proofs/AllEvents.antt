@@ -16,7 +16,7 @@ use Rattle.step_refinement.proofs.TaskLoop.{PhasesGood}
 use Rattle.step_refinement.proofs.SyncMessages.{ask_good, give_good}
 use Rattle.step_refinement.proofs.CallByCall.{Ends, Onward}
 use Rattle.step_refinement.specs.Scenes.{Scene, now, AtRest, MessageComes}
-use Rattle.step_refinement.proofs.CalledKeys.{run_keys_few, run_ids_few}
+use Rattle.step_refinement.proofs.CalledKeys.{run_keys_below, run_ids_below}
 use Rattle.step_refinement.proofs.PhaseRules as elections
 use Rattle.step_refinement.proofs.Requests.{check_good, got_good, put_in_good}
 use Rattle.step_refinement.proofs.WholeSteps.{IsElse, OthersGood, StepGrounds, step_good, call_good}
@@ -46,7 +46,7 @@ module _ (c : Scene) where
     message_good : (from : ℕ) (message : Message) → IsElse message → MessageComes c from message (now c rest.0.reached) → Ends c (delivered p from message x nothing next) (delivered p from message x nothing mark) h []
     message_good from (messages.Check ballot round) is comes = check_good c rest.0 rest.1 next mark replies from ballot round comes
     message_good from (messages.Get ballot round key) is comes = got_good c rest.0 rest.1 next mark replies from ballot round key comes
-    message_good from (messages.Put ballot o) is comes = put_in_good c rest.0 rest.1 next mark replies run_keys_few from ballot o comes
+    message_good from (messages.Put ballot o) is comes = put_in_good c rest.0 rest.1 next mark replies run_keys_below from ballot o comes
     message_good from messages.Probe is comes = elections.received_good c [] x h nothing [] rest next mark names_phases from messages.Probe tt comes.other comes.holds comes.listed
     message_good from (messages.ProbeReply fact) is comes = elections.received_good c [] x h nothing [] rest next mark names_phases from (messages.ProbeReply fact) tt comes.other comes.holds comes.listed
     message_good from (messages.Prepare ballot) is comes = elections.received_good c [] x h nothing [] rest next mark names_phases from (messages.Prepare ballot) tt comes.other comes.holds comes.listed
@@ -76,7 +76,7 @@ module _ (c : Scene) where
 
 -- all of it is there
 step_grounds : StepGrounds
-step_grounds = record { keys = run_keys_few; ids = run_ids_few; phases_good = phases_good; others = others_good }
+step_grounds = record { keys = run_keys_below; ids = run_ids_below; phases_good = phases_good; others = others_good }
 
 -- each step ends well
 pub steps_good : StepEndsWell

@@ -1,5 +1,7 @@
 -- The key of each proposed version was called; so keys and ids are no more than calls, and calls no more than events.
-use Rattle.std.proofs.Common.{◌≡◌, ℕ, ◌<◌, true, ◌⊎◌, List, [], ◌∷◌, length, map, suc, Option, None, Some, arith, refl, ap, sym, subst, inl, inr, ◌∙◌}
+use Rattle.std.proofs.Common.{◌≡◌, ℕ, ◌<◌, ◌≤◌, ◌^◌, true, ◌⊎◌, List, [], ◌∷◌, length, map, suc, Option, None, Some, arith, refl, ap, sym, subst, inl, inr, ◌∙◌}
+use Rattle.std.proofs.lemmas.List.{length-map}
+use Rattle.ens_base.proofs.Lists.{in-map}
 use Rattle.ens_base.specs.Lists.{◌∈◌}
 use Rattle.ens_base.specs.declared.entry.Entry.{Entry}
 use Rattle.register_model.specs.declared.call.Call.{Call}
@@ -11,7 +13,7 @@ use Rattle.protocol_laws.proofs.Replies.{run_entries}
 use Rattle.protocol_laws.proofs.Noted.{Listed, run_listed}
 use Rattle.protocol_laws.specs.Protocol.{State, Step, Begin, Ask, Raise, Elect, Accept, Commit, Adopt, Write, Acknowledge, Install, EndSync, Propose, Settle, Note, Answer, Lose, Revert, happens, IsRun, state_after}
 use Rattle.step_refinement.proofs.DistinctItems.{images_few, Comes}
-use Rattle.step_refinement.specs.Keys.{IsCalled, IsProposed, KeysAreCalled, KeysAreFew, IdsAreFew, CallsAreFew}
+use Rattle.step_refinement.specs.Keys.{IsCalled, IsProposed, KeysAreCalled, KeysAreFew, IdsAreFew, CallsAreFew, AreFew, KeysAreBelow, IdsAreBelow}
 
 module _ (s : State) (basics : Basics s.objects) (entries : EntriesAreSafe s) (listed : Listed s) where
   -- a write is on the key of its call, and a rewrite on the key of its parent
@@ -46,6 +48,25 @@ module _ (s : State) (basics : Basics s.objects) (entries : EntriesAreSafe s) (l
   -- distinct ids of calls are no more than calls
   pub ids_few : IdsAreFew s
   ids_few ids distinct called = images_few (λ (c : Call). c.id) s.book.calls ids distinct (λ i m. (s.book.asked i, listed.call_in i (called i m), (entries.calls i (called i m)).own_id))
+
+  -- so they are fewer than those of few calls
+  pub keys_below : KeysAreBelow s
+  keys_below few keys distinct proposed = below (images_few (λ (k : List ℕ). k) few.keys keys distinct (λ key m. comes key (key_called key (proposed key m)))) few.few_keys
+    where
+      comes : (key : List ℕ) → Comes (λ (c : Call). c.key) s.book.calls key → Comes (λ (k : List ℕ). k) few.keys key
+      comes key c = (key, subst (λ (k : List ℕ). k ∈ few.keys) c.2 (few.own_key c.0 c.1), refl)
+
+      below : length keys ≤ length few.keys → length few.keys < 2 ^ 32 → length keys < 2 ^ 32
+      below le less = omega (arith, le, less)
+
+  pub ids_below : IdsAreBelow s
+  ids_below few ids distinct called = below (images_few (λ (i : ℕ). i) few.ids ids distinct (λ i m. (i, own i (called i m), refl))) few.few_ids
+    where
+      own : (i : ℕ) → s.book.called i ≡ true → i ∈ few.ids
+      own i came = subst (λ (j : ℕ). j ∈ few.ids) (entries.calls i came).own_id (few.own_id (s.book.asked i) (listed.call_in i came))
+
+      below : length ids ≤ length few.ids → length few.ids < 2 ^ 60 → length ids < 2 ^ 60
+      below le less = omega (arith, le, less)
 
 -- each call begins an event
 calls_few_step : (s : State) (e : Step) → CallsAreFew s → CallsAreFew (happens s e)
@@ -85,6 +106,44 @@ run_keys_few view steps run = keys_few (state_after view steps) (run_whole view 
 -- distinct ids of calls are no more than calls
 pub run_ids_few : (view : List ℕ) (steps : List Step) → IsRun view steps → IdsAreFew (state_after view steps)
 run_ids_few view steps run = ids_few (state_after view steps) (run_whole view steps run).basics (run_entries view steps run) (run_listed view steps run)
+
+-- and both are fewer than a limit if the calls are few
+pub run_keys_below : (view : List ℕ) (steps : List Step) → IsRun view steps → KeysAreBelow (state_after view steps)
+run_keys_below view steps run = keys_below (state_after view steps) (run_whole view steps run).basics (run_entries view steps run) (run_listed view steps run)
+
+pub run_ids_below : (view : List ℕ) (steps : List Step) → IsRun view steps → IdsAreBelow (state_after view steps)
+run_ids_below view steps run = ids_below (state_after view steps) (run_whole view steps run).basics (run_entries view steps run) (run_listed view steps run)
+
+-- ## Few calls
+
+-- some of few calls are few
+pub some_few : (some calls : List Call) → ((c : Call) → c ∈ some → c ∈ calls) → AreFew calls → AreFew some
+some_few some calls among few = record {
+  ids = few.ids;
+  few_ids = few.few_ids;
+  own_id = λ c at. few.own_id c (among c at);
+  keys = few.keys;
+  few_keys = few.few_keys;
+  own_key = λ c at. few.own_key c (among c at);
+}
+
+-- fewer than 2^60 calls on fewer than 2^32 keys are few
+pub few_on_keys : (calls : List Call) → length calls < 2 ^ 60 → (keys : List (List ℕ)) → length keys < 2 ^ 32 → ((c : Call) → c ∈ calls → c.key ∈ keys) → AreFew calls
+few_on_keys calls few keys few_keys own_key = record {
+  ids = map (λ (c : Call). c.id) calls;
+  few_ids = subst (λ (n : ℕ). n < 2 ^ 60) (sym (length-map calls (λ (c : Call). c.id))) few;
+  own_id = in-map (λ (c : Call). c.id) calls;
+  keys = keys;
+  few_keys = few_keys;
+  own_key = own_key;
+}
+
+-- so are fewer than 2^32 calls
+pub calls_below : (calls : List Call) → length calls < 2 ^ 32 → AreFew calls
+calls_below calls less = few_on_keys calls (wide (length calls) less) (map (λ (c : Call). c.key) calls) (subst (λ (n : ℕ). n < 2 ^ 32) (sym (length-map calls (λ (c : Call). c.key))) less) (in-map (λ (c : Call). c.key) calls)
+  where
+    wide : (n : ℕ) → n < 2 ^ 32 → n < 2 ^ 60
+    wide n less = omega (arith, less)
 
 -- ## The keys of a map
 

@@ -67,7 +67,7 @@ use Rattle.step_refinement.proofs.LeaderPlans.{There, told_nothing, followed, st
 use Rattle.step_refinement.proofs.TreeLookups.{MayStore, Over, over_here, Stored, write_here, fetched_ends, written_ends}
 use Rattle.step_refinement.proofs.LeaderOutcomes.{NamesNext, tame_28, tame_35, broken_35}
 use Rattle.step_refinement.proofs.LeaderTasks.{AreApart, AreIdle, idle_kept, looking_way, IsFetching, IsPutting, Way, Half}
-use Rattle.step_refinement.specs.Keys.{KeysAreFew}
+use Rattle.step_refinement.specs.Keys.{KeysAreBelow}
 use Rattle.step_refinement.specs.Peers.{AsksFit, EpochsFit, TaskFits}
 
 -- ## Premises
@@ -75,7 +75,7 @@ use Rattle.step_refinement.specs.Peers.{AsksFit, EpochsFit, TaskFits}
 -- what the rules of a leader stand on: the keys of a run are no more than its calls, and the epochs that were elected
 -- before the step have a count of 64 bits
 pub record Grounds (c : Scene) : Type 0 where
-  pub few : (view : List ℕ) (steps : List Step) → IsRun view steps → KeysAreFew (state_after view steps)
+  pub few : (view : List ℕ) (steps : List Step) → IsRun view steps → KeysAreBelow (state_after view steps)
   pub epochs : EpochsFit (state_before c)
 
 -- ## A look by a leader that has only begun one

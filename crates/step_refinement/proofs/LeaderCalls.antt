@@ -1,5 +1,5 @@
 -- What a leader does on a call, and on the replies to what it has asked.
-use Rattle.std.proofs.Common.{◌≡◌, inl, ◌<◌, ◌^◌, ℕ, List, [], ◌∷◌, ◌++◌, append-nil, length, Option, Some, None, refl, sym, subst, ◌∙◌}
+use Rattle.std.proofs.Common.{◌≡◌, inl, ℕ, List, [], ◌∷◌, ◌++◌, append-nil, Option, Some, None, refl, sym, subst, ◌∙◌}
 use Rattle.std.proofs.lemmas.List.Elements.{All-nil}
 use Rattle.ens_base.specs.Lists.{◌∈◌}
 use Rattle.ens_base.specs.declared.entry.Entry.{Entry}
@@ -56,6 +56,7 @@ use Rattle.step_plans.specs.declared.tasks.Task.{Task}
 use Rattle.protocol_laws.proofs.Maps.{put_here}
 use Rattle.wire_frames.specs.declared.message.Message.TheVariants as messages
 use Rattle.step_refinement.proofs.CallByCall.{Ends, Onward}
+use Rattle.step_refinement.specs.Keys.{AreFew}
 use Rattle.step_refinement.specs.Scenes.{Scene, state_before, now, Here, AtRest}
 use Rattle.step_refinement.specs.Steps.{asked_in, with_call}
 use Rattle.step_refinement.proofs.LeadersAtWork.{Standing, Stands, standing_of, stands_here, stands_on, steps_stand, move_roles, at_work, own_peer, own_map, rekeyed_leader}
@@ -139,7 +140,7 @@ module _ (c : Scene) where
 
 -- ## Calls
 
-module _ (c : Scene) (call : CallIn) (few : length (state_after c.view (Ask (asked_in (state_before c) call) ∷ c.begun)).book.calls < 2 ^ 32) (asked : AsksFit (state_after c.view (Ask (asked_in (state_before c) call) ∷ c.begun)))
+module _ (c : Scene) (call : CallIn) (few : AreFew (state_after c.view (Ask (asked_in (state_before c) call) ∷ c.begun)).book.calls) (asked : AsksFit (state_after c.view (Ask (asked_in (state_before c) call) ∷ c.begun)))
     (may : MayCall (state_before c).book (asked_in (state_before c) call)) where
   open c use {lines, version, view, strings, peer as p}
 

@@ -59,7 +59,7 @@ use Rattle.step_refinement.specs.Scenes.{Scene, now, Here, AtRest, MessageComes}
 use Rattle.step_refinement.proofs.TreeLookups.{IsReady, Over, Stored, MayStore, shown_map, nothing_read, over_here, write_here, acknowledge_here, looked_ends, found_ends, written_ends}
 use Rattle.step_refinement.proofs.LostTrust.{untrusts}
 use Rattle.step_refinement.proofs.SentMessages.{posted_to_each, SendSaysSo, says_nothing, says_one, tells_more, says_here}
-use Rattle.step_refinement.specs.Keys.{KeysAreFew}
+use Rattle.step_refinement.specs.Keys.{KeysAreBelow}
 use Rattle.step_refinement.specs.Peers.{IsAtRest, SendFits}
 use Rattle.step_refinement.specs.Roles.{said_of}
 
@@ -343,7 +343,7 @@ module _ (c : Scene) where
         (reply_ends h here (refuses from ballot causes.Untrusted) (record { save = refl; leave = refl; next = inl refl }) tt)
         (reply_ends h here (silent thens.Stay) (record { save = refl; leave = refl; next = inl refl }) tt)
 
-    module _ (few : (view : List ℕ) (steps : List Step) → IsRun view steps → KeysAreFew (state_after view steps)) (from : ℕ) (ballot : Epoch) (o : Object) where
+    module _ (few : (view : List ℕ) (steps : List Step) → IsRun view steps → KeysAreBelow (state_after view steps)) (from : ℕ) (ballot : Epoch) (o : Object) where
       -- the version goes in, and is acknowledged
       write_ends : (row : PhaseOut) (t : Held) → Over c here t → IsReady c x → PutComes from ballot o → TakesVersion here.reached.ghosts (now c here.reached) strings p here.tree.last.map from ballot o row
           → Ends c (put_done row.then p from ballot o row x out next) (put_done row.then p from ballot o row x out mark) t notes

@@ -3,7 +3,7 @@
 use Rattle.std.specs.Option.{is_some}
 use Rattle.std.specs.List.{AllByRecursion}
 use Rattle.std.specs.Prelude.{All, nat_le, not, ◌&&◌, ◌||◌, ◌==◌}
-use Rattle.std.proofs.Common.{◌≡◌, ◌⊎◌, inl, inr, ◌<◌, ◌≤◌, ◌^◌, ℕ, Bool, true, false, List, [], ◌∷◌, ◌++◌, get_or, length, map, Option, None, Some, Result, Ok, Err, arith, refl, ap, sym, subst, ◌∙◌}
+use Rattle.std.proofs.Common.{◌≡◌, ◌⊎◌, inl, inr, ◌<◌, ◌^◌, ℕ, Bool, true, false, List, [], ◌∷◌, ◌++◌, get_or, length, map, Option, None, Some, Result, Ok, Err, refl, ap, sym, subst, ◌∙◌}
 use Rattle.std.proofs.lemmas.Bool.{true≢false}
 use Rattle.std.proofs.lemmas.List.Elements.{All-nil, All-cons}
 use Rattle.std.proofs.lemmas.Option.{none-some}
@@ -42,7 +42,6 @@ use Rattle.stored_formats.specs.declared.fact.Change.TheVariants as changes
 use Rattle.stored_formats.specs.declared.fact.Fact.{Fact}
 use Rattle.phase_rows.specs.Peers.{joined}
 use Rattle.phase_rows.specs.declared.rules.PhaseRule.TheVariants as phase_rules
-use Rattle.register_model.specs.declared.call.Call.{Call as BookCall}
 use Rattle.register_model.specs.declared.note.Note.{Note}
 use Rattle.tree_sync.proofs.Messages.{start_go, resume_go, start_ask, resume_ask}
 use Rattle.tree_sync.proofs.Others.{asks_are, resumed_are}
@@ -93,8 +92,9 @@ use Rattle.wire_frames.specs.declared.message.Message.{Message}
 use Rattle.world_stores.specs.Nodes.{top_of}
 use Rattle.world_stores.specs.declared.fact.HeldFact.{HeldFact}
 use Rattle.step_refinement.proofs.CallByCall.{Ends, Answers, IsRefused, Onward, ask_ends, ask_may_end, rest_task}
+use Rattle.step_refinement.specs.Keys.{AreFew}
 use Rattle.step_refinement.specs.Scenes.{Scene, Reached, state_before, now, Elsewhere, Here, AtRest, Rests}
-use Rattle.step_refinement.proofs.CalledKeys.{run_keys_few, length_keys, key_from}
+use Rattle.step_refinement.proofs.CalledKeys.{run_keys_below, length_keys, key_from}
 use Rattle.step_refinement.proofs.Stretches.{elsewhere_then}
 use Rattle.step_refinement.proofs.StoreAnswers.{HasEither, SaveEnds, Saves, Refuses, save_ends}
 use Rattle.step_refinement.proofs.Refusals.{Halts, rests_down, rests_over, rests_sealed}
@@ -205,11 +205,8 @@ module _ (c : Scene) where
   firm_here r q firm = r.elsewhere.reverted q ∙ c.firm q firm
 
   few_here : (r : Reached c) → AreFewKeys (now c r)
-  few_here r m proposed keys distinct = below (run_keys_few view r.steps r.run (map (λ (e : Entry). e.key) m) distinct (key_from (λ k. (v : ℕ) × ((now c r).objects.proposed v ≡ true) × ((now c r).objects.key v ≡ k)) m (λ e at. (rank e.version, proposed e at, sym (keys e at)))))
-      (length_keys m) (ap (λ (calls : List BookCall). length calls) r.elsewhere.calls) c.few
-    where
-      below : length (map (λ (e : Entry). e.key) m) ≤ length (now c r).book.calls → length (map (λ (e : Entry). e.key) m) ≡ length m → length (now c r).book.calls ≡ length (state_before c).book.calls → length (state_before c).book.calls < 2 ^ 32 → length m < 2 ^ 32
-      below le same calls few = omega (arith, le, same, calls, few)
+  few_here r m proposed keys distinct = subst (λ (n : ℕ). n < 2 ^ 32) (length_keys m)
+      (run_keys_below view r.steps r.run (subst AreFew (sym r.elsewhere.calls) c.few) (map (λ (e : Entry). e.key) m) distinct (key_from (λ k. (v : ℕ) × ((now c r).objects.proposed v ≡ true) × ((now c r).objects.key v ≡ k)) m (λ e at. (rank e.version, proposed e at, sym (keys e at)))))
 
   -- ## What a sync sends
 

@@ -3,7 +3,7 @@
 -- stored, unless its path is damaged. The steps of the abstract protocol that belong to this are those
 -- of the peer's own tree: a write, and an acknowledgement.
 use Rattle.std.specs.Option.{is_some}
-use Rattle.std.proofs.Common.{◌≡◌, ◌⊎◌, inl, inr, ◌<◌, ◌≤◌, ◌^◌, ℕ, true, List, [], ◌∷◌, ◌++◌, length, map, Option, None, Some, Ok, Err, arith, refl, sym, ap, subst, ◌∙◌}
+use Rattle.std.proofs.Common.{◌≡◌, ◌⊎◌, inl, inr, ◌<◌, ◌^◌, ℕ, true, List, [], ◌∷◌, ◌++◌, length, map, Option, None, Some, Ok, Err, arith, refl, sym, ap, subst, ◌∙◌}
 use Rattle.std.proofs.lemmas.Option.{none-some}
 use Rattle.md5.specs.Md5.{md5}
 use Rattle.ens_base.specs.Lists.{◌∈◌}
@@ -37,7 +37,6 @@ use Rattle.peer_spec.specs.Syncs.{sealed}
 use Rattle.peer_spec.specs.Owns.{digested, read, kept, fetched, held, looked_at, looked, found_at, found, stored as stored_bytes, resealed, entered, written, confirmed}
 use Rattle.peer_state.specs.declared.state.State.{State as PeerState}
 use Rattle.register_model.specs.declared.note.Note.{Note}
-use Rattle.register_model.specs.declared.call.Call.{Call as BookCall}
 use Rattle.peer_refinement.proofs.Looks.{looks_so}
 use Rattle.peer_refinement.proofs.Lookups.{in_put}
 use Rattle.peer_refinement.proofs.Names.{version_decoded}
@@ -76,7 +75,7 @@ use Rattle.step_refinement.proofs.Refusals.{rests_down, rests_over, rests_sealed
 use Rattle.step_refinement.proofs.LaterStates.{sends_stay, sync_stays, phase_stays}
 use Rattle.step_refinement.proofs.ShownMaps.{seal_on, tops_stay, last_under, last_written, tree_sees, tree_over, tree_written, tree_stays, names_from, written_from, written_kept, IsSealOf, written_root}
 use Rattle.step_refinement.proofs.SaidVersions.{settled_say, rank_again, acks_step, matches, Confirmed, none_confirmed, named_confirmed, both_kept}
-use Rattle.step_refinement.specs.Keys.{KeysAreFew}
+use Rattle.step_refinement.specs.Keys.{AreFew, KeysAreBelow}
 use Rattle.step_refinement.specs.Peers.{TopsReturn, TreeHolds, TaskFits, LastMap, SealFits, SyncFits}
 use Rattle.step_refinement.specs.Roles.{role_in, said_in_sends}
 
@@ -491,12 +490,11 @@ module _ (c : Scene) where
 
     -- ## A write
 
-    module _ (few : (view : List ℕ) (steps : List Step) → IsRun view steps → KeysAreFew (state_after view steps)) where
-      -- with one more version the map has no more entries than calls came
+    module _ (few : (view : List ℕ) (steps : List Step) → IsRun view steps → KeysAreBelow (state_after view steps)) where
+      -- with one more version the map has few entries, since few calls came
       few_entries : (o : Object) (d : ℕ) (digest : List ℕ) → PutSays s d o.key (rank o.version) (content_of o) → length (put (entry_of o digest) here.tree.last.map) < 2 ^ 32
-      few_entries o d digest says = below
-          (few view here.reached.steps here.reached.run (map (λ (e : Entry). e.key) m) (distinct_keys m (ascends-put (entry_of o digest) here.tree.last.map here.tree.last.named.stands.is_map.ascends)) (key_from IsKeyOf m (λ e i. by_place e (in_put e (entry_of o digest) here.tree.last.map i))))
-          (length_keys m) (ap (λ (calls : List BookCall). length calls) here.reached.elsewhere.calls) c.few
+      few_entries o d digest says = subst (λ (n : ℕ). n < 2 ^ 32) (length_keys m)
+          (few view here.reached.steps here.reached.run (subst AreFew (sym here.reached.elsewhere.calls) c.few) (map (λ (e : Entry). e.key) m) (distinct_keys m (ascends-put (entry_of o digest) here.tree.last.map here.tree.last.named.stands.is_map.ascends)) (key_from IsKeyOf m (λ e i. by_place e (in_put e (entry_of o digest) here.tree.last.map i))))
         where
           m : List Entry
           m = put (entry_of o digest) here.tree.last.map
@@ -507,9 +505,6 @@ module _ (c : Scene) where
           by_place : (e : Entry) → (e ≡ entry_of o digest) ⊎ (e ∈ here.tree.last.map) → IsKeyOf e.key
           by_place e (inl same) = (rank o.version, says.proposed, says.key ∙ ap (λ (f : Entry). f.key) (sym same))
           by_place e (inr old) = let there = here.tree.last.says.entries e old in (rank e.version, there.version.proposed, sym there.key)
-
-          below : length (map (λ (e : Entry). e.key) m) ≤ length s.book.calls → length (map (λ (e : Entry). e.key) m) ≡ length m → length s.book.calls ≡ length (state_before c).book.calls → length (state_before c).book.calls < 2 ^ 32 → length m < 2 ^ 32
-          below le same calls few = omega (arith, le, same, calls, few)
 
       module _ (o : Object) (d : ℕ) (store : MayStore o d) (next mark : Rest PeerState Seen) where
         abbrev bytes : List ℕ

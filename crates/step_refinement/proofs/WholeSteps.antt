@@ -1,5 +1,5 @@
 -- A whole step of a peer ends well: the event, the tasks that follow from it, and rule 26 at the end.
-use Rattle.std.proofs.Common.{◌≡◌, ◌<◌, ◌≤◌, ◌^◌, inl, ℕ, false, suc, List, [], ◌∷◌, None, length, arith, refl, ap}
+use Rattle.std.proofs.Common.{◌≡◌, ◌<◌, ◌^◌, inl, ℕ, false, suc, List, [], ◌∷◌, None, length, refl, ap, sym, subst}
 use Rattle.phase_rows.specs.declared.rules.PhaseRule.TheVariants as phase_rules
 use Rattle.ens_base.specs.Lists.{◌∈◌}
 use Rattle.protocol_laws.specs.Book.{MayCall}
@@ -39,7 +39,7 @@ use Rattle.step_refinement.proofs.LeadersAtWork.{at_work, rekeyed}
 use Rattle.step_refinement.proofs.KeyTasks.{Grounds}
 use Rattle.step_refinement.proofs.LeaderTasks.{phases_wait, TasksFit}
 use Rattle.step_refinement.proofs.LeaderTicks.{led_tick}
-use Rattle.step_refinement.specs.Keys.{KeysAreFew, IdsAreFew}
+use Rattle.step_refinement.specs.Keys.{AreFew, KeysAreBelow, IdsAreBelow}
 use Rattle.step_refinement.specs.Peers.{AsksFit, EpochsFit}
 
 -- a message that no leader counts for its calls
@@ -72,13 +72,13 @@ ids_length : (calls : List Waiting) → length (ids_of calls) ≡ length calls
 ids_length [] = refl
 ids_length (w ∷ ws) = ap suc (ids_length ws)
 
-module _ (c : Scene) (ids : (view : List ℕ) (steps : List Step) → IsRun view steps → IdsAreFew (state_after view steps)) where
+module _ (c : Scene) (ids : (view : List ℕ) (steps : List Step) → IsRun view steps → IdsAreBelow (state_after view steps)) where
   open c use {view, peer as p}
 
   -- fewer calls are unanswered than came
   few_here : {key : List ℕ} {h : Held} {out : Out} {notes : List Note} (l : Leadership) (x : PeerState) → Here c key (leading l x) h out notes → length l.leader.table.calls < 2 ^ 60
-  few_here {key} {out = out} l x here = below (ids view here.reached.steps here.reached.run (ids_of l.leader.table.calls) leaves.distinct (λ id at. let on = leaves.among id at in ((work.holds.rows on.0).calls id on.1).called)) (ids_length l.leader.table.calls)
-      (ap (λ calls. length calls) here.reached.elsewhere.calls) c.few
+  few_here {key} {out = out} l x here = subst (λ (n : ℕ). n < 2 ^ 60) (ids_length l.leader.table.calls)
+      (ids view here.reached.steps here.reached.run (subst AreFew (sym here.reached.elsewhere.calls) c.few) (ids_of l.leader.table.calls) leaves.distinct (λ id at. let on = leaves.among id at in ((work.holds.rows on.0).calls id on.1).called))
     where
       work : IsAtWork here.reached.ghosts (now c here.reached) key (owed_after [] out.answers) l.leader
       work = at_work c l x here
@@ -86,17 +86,13 @@ module _ (c : Scene) (ids : (view : List ℕ) (steps : List Step) → IsRun view
       leaves : Leaves here.reached.ghosts (now c here.reached) key (owed_after [] out.answers) l.leader
       leaves = run_leaves view here.reached.steps here.reached.run here.reached.ghosts key (owed_after [] out.answers) l.leader work
 
-      below : length (ids_of l.leader.table.calls) ≤ length (now c here.reached).book.calls → length (ids_of l.leader.table.calls) ≡ length l.leader.table.calls → length (now c here.reached).book.calls ≡ length (state_before c).book.calls → length (state_before c).book.calls < 2 ^ 32
-          → length l.leader.table.calls < 2 ^ 60
-      below le same kept few = omega (arith, le, same, kept, few)
-
   few_calls : (phase : Phase) (key : List ℕ) (x : PeerState) (h : Held) (out : Out) (notes : List Note) → Here c key (record x { phase = phase }) h out notes → HasFewCalls phase
   few_calls (phases.Leading l) key x h out notes here = few_here l x here
   few_calls (phases.Following f) key x h out notes here = tt
   few_calls (phases.Probing b) key x h out notes here = tt
   few_calls (phases.Electing e) key x h out notes here = tt
 
-module _ (c : Scene) (grounds : Grounds c) (phases_good : PhasesGood c) (ids : (view : List ℕ) (steps : List Step) → IsRun view steps → IdsAreFew (state_after view steps)) where
+module _ (c : Scene) (grounds : Grounds c) (phases_good : PhasesGood c) (ids : (view : List ℕ) (steps : List Step) → IsRun view steps → IdsAreBelow (state_after view steps)) where
   open c use {peer as p}
 
   -- the step is over
@@ -160,8 +156,8 @@ module _ (c : Scene) (others : OthersGood c) where
 
 -- what all steps stand on
 pub record StepGrounds : Type 0 where
-  pub keys : (view : List ℕ) (steps : List Step) → IsRun view steps → KeysAreFew (state_after view steps)
-  pub ids : (view : List ℕ) (steps : List Step) → IsRun view steps → IdsAreFew (state_after view steps)
+  pub keys : (view : List ℕ) (steps : List Step) → IsRun view steps → KeysAreBelow (state_after view steps)
+  pub ids : (view : List ℕ) (steps : List Step) → IsRun view steps → IdsAreBelow (state_after view steps)
   pub phases_good : (c : Scene) → PhasesGood c
   pub others : (c : Scene) → OthersGood c
 
@@ -171,7 +167,7 @@ module _ (g : StepGrounds) where
   step_good c epochs event x h rest comes = whole_step c (record { few = g.keys; epochs = epochs }) (g.phases_good c) g.ids event x h (few_calls c g.ids x.phase [] x h nothing [] rest.0) (λ next mark go. event_good c (g.others c) event x h rest comes next mark go)
 
   -- so does its step on a call, which has come when the step begins
-  pub call_good : (c : Scene) → EpochsFit (state_before c) → (call : CallIn) (few : length (state_after c.view (Ask (asked_in (state_before c) call) ∷ c.begun)).book.calls < 2 ^ 32) (asked : AsksFit (state_after c.view (Ask (asked_in (state_before c) call) ∷ c.begun))) (x : PeerState) (h : Held)
+  pub call_good : (c : Scene) → EpochsFit (state_before c) → (call : CallIn) (few : AreFew (state_after c.view (Ask (asked_in (state_before c) call) ∷ c.begun)).book.calls) (asked : AsksFit (state_after c.view (Ask (asked_in (state_before c) call) ∷ c.begun))) (x : PeerState) (h : Held)
       → (rest : AtRest c [] x h nothing []) → rest.0.reached.steps ≡ c.begun → MayCall (state_before c).book (asked_in (state_before c) call) → Well (with_call c call few asked) (step_of c.peer (events.Call call) x) h []
   call_good c epochs call few asked x h rest same may = whole_step d (record { few = g.keys; epochs = epochs }) (g.phases_good d) g.ids (events.Call call) x h (few_calls c g.ids x.phase [] x h nothing [] rest.0)
       (λ next mark go. called_good c call few asked may x h rest.0 same rest.1 next mark go)

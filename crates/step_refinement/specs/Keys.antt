@@ -1,5 +1,5 @@
 -- The keys of versions, and the number of calls.
-use Rattle.std.specs.Prelude.{◌≡◌, ◌≤◌, ℕ, true, List, length}
+use Rattle.std.specs.Prelude.{◌≡◌, ◌≤◌, ◌<◌, ◌^◌, ℕ, true, List, length}
 use Rattle.ens_base.specs.Lists.{◌∈◌, AreDistinct}
 use Rattle.register_model.specs.declared.call.Call.{Call}
 use Rattle.protocol_laws.specs.Protocol.{State}
@@ -27,3 +27,21 @@ IdsAreFew s = (ids : List ℕ) → AreDistinct ids → ((id : ℕ) → id ∈ id
 -- there are no more calls than events
 abbrev pub CallsAreFew : State → Type 0
 CallsAreFew s = length s.book.calls ≤ s.book.now
+
+-- The ids of these calls are among fewer than 2^60, and their keys among fewer than 2^32. A step makes some turns for
+-- each call that is unanswered, and counts its turns in eight bytes; a segment of a tree counts its entries in four.
+pub record AreFew (calls : List Call) : Type 0 where
+  pub ids : List ℕ
+  pub few_ids : length ids < 2 ^ 60
+  pub own_id : (c : Call) → c ∈ calls → c.id ∈ ids
+  pub keys : List (List ℕ)
+  pub few_keys : length keys < 2 ^ 32
+  pub own_key : (c : Call) → c ∈ calls → c.key ∈ keys
+
+-- distinct keys of proposed versions are fewer than 2^32, if the calls are few
+abbrev pub KeysAreBelow : State → Type 0
+KeysAreBelow s = AreFew s.book.calls → (keys : List (List ℕ)) → AreDistinct keys → ((key : List ℕ) → key ∈ keys → IsProposed s key) → length keys < 2 ^ 32
+
+-- and distinct ids that were called fewer than 2^60
+abbrev pub IdsAreBelow : State → Type 0
+IdsAreBelow s = AreFew s.book.calls → (ids : List ℕ) → AreDistinct ids → ((id : ℕ) → id ∈ ids → s.book.called id ≡ true) → length ids < 2 ^ 60

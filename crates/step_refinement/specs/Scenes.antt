@@ -1,6 +1,6 @@
 -- A step of a peer beside a run of the abstract protocol: where a step is, and how it ends. A write to
 -- its stores may be refused, and then the step ends, and the peer is down.
-use Rattle.std.specs.Prelude.{All, ◌≡◌, ◌≢◌, ◌<◌, ◌^◌, ℕ, List, [], ◌++◌, length, Some}
+use Rattle.std.specs.Prelude.{All, ◌≡◌, ◌≢◌, ℕ, List, [], ◌++◌, Some}
 use Rattle.ens_base.specs.Lists.{◌∈◌}
 use Rattle.ens_base.specs.View.{IsPeer}
 use Rattle.protocol_laws.specs.Ledger.{put}
@@ -22,6 +22,7 @@ use Rattle.step_plans.specs.Plans.{Ending, Finished, Stopped, Out}
 use Rattle.step_plans.specs.Saved.{bare}
 use Rattle.wire_frames.specs.Messages.{Obeys}
 use Rattle.wire_frames.specs.declared.message.Message.{Message}
+use Rattle.step_refinement.specs.Keys.{AreFew}
 use Rattle.step_refinement.specs.Peers.{TreeHolds, DownHolds, SealFits, AcksSay, AsksFit, PhaseFits, TaskFits, IsAtRest, MessageFits, SendFits, SyncFits}
 use Rattle.step_refinement.specs.Roles.{role_in, said_of, said_in_sends}
 use Rattle.peer_refinement.specs.Naming.{hash_of}
@@ -34,8 +35,7 @@ use Rattle.peer_refinement.specs.Trees.{AreFree}
 -- run, the opening view, the run before it,
 -- newest step first, the peer, the roles of all peers and what was said before, and all strings that the
 -- whole schedule hashes, which are free of clashes. Of each view that may vote more than half of the
--- members are firm, and firm peers were never reverted. Fewer than 2 ^ 32 calls came, and each keeps its
--- limits.
+-- members are firm, and firm peers were never reverted. The calls that came are few, and each keeps its limits.
 pub record Scene : Type 0 where
   pub lines : Lines
   pub version : TreeVersion
@@ -48,7 +48,7 @@ pub record Scene : Type 0 where
   pub said : List Sent
   pub strings : List (List ℕ)
   pub free : AreFree strings
-  pub few : length (state_after view begun).book.calls < 2 ^ 32
+  pub few : AreFew (state_after view begun).book.calls
   pub asked : AsksFit (state_after view begun)
   pub firm : FirmAreKept lines (state_after view begun)
 

@@ -1,5 +1,5 @@
 -- The agreement of a world with a run is carried through the lines of a schedule.
-use Rattle.std.proofs.Common.{◌≡◌, ℕ, suc, ◌<◌, ◌≤◌, ◌^◌, ◌==◌, if◌then◌else◌, Bool, true, false, not, nat_lt, List, ◌∷◌, ◌++◌, length, Some, slice_get, slice_set, arith, refl, sym, subst}
+use Rattle.std.proofs.Common.{◌≡◌, ℕ, suc, ◌≤◌, ◌==◌, if◌then◌else◌, Bool, true, false, not, nat_lt, List, ◌∷◌, ◌++◌, length, Some, slice_get, slice_set, arith, refl, sym, subst, inr}
 use Rattle.std.proofs.lemmas.Bool.{and_parts, false≢true}
 use Rattle.ens_base.proofs.Lists.{in_left}
 use Rattle.std.specs.Prelude.{All}
@@ -41,7 +41,7 @@ use Rattle.world_refinement.proofs.ChangedStores.{SparesRecords, altered_fits, a
 use Rattle.step_refinement.specs.Scenes.{MessageComes}
 use Rattle.world_refinement.proofs.GivenAnswers.{parts_same}
 use Rattle.world_refinement.proofs.WorldGrammar.{is_peer, taken_intact}
-use Rattle.step_refinement.proofs.CalledKeys.{run_calls_few}
+use Rattle.step_refinement.proofs.CalledKeys.{some_few}
 use Rattle.world_refinement.proofs.ChangedNodes.{frame_at, said_at, none_from, all_are_down}
 use Rattle.world_refinement.proofs.Schedules.{IsInRun, AreAlike, TakesStep, GoesAlong, Changes, Starts, after_start, IsCarried, next_call}
 use Rattle.step_refinement.proofs.Stretches.{elsewhere_none}
@@ -94,13 +94,6 @@ module _ (lines : Lines) (view : List ℕ) (strings : List (List ℕ)) where
       by_id true came = (is_key, is_command)
       by_id false came = asked i came
 
-  -- fewer calls came than the event has for a number
-  calls_below : (steps : List Step) (w : Run) → WorldHolds lines view strings steps w → (state_after view steps).book.now < 2 ^ 32 → length (state_after view steps).book.calls < 2 ^ 32
-  calls_below steps w holds few = below (length (state_after view steps).book.calls) (state_after view steps).book.now (run_calls_few view steps holds.parts.run) few
-    where
-      below : (c n : ℕ) → c ≤ n → n < 2 ^ 32 → c < 2 ^ 32
-      below c n less few = omega (arith, less, few)
-
   module _ (sound : AreFirm lines) (free : AreFree strings) (peers : ℕ) (small : peers ≤ 31) (whole : Run) (all : AreAmong whole.hashed strings) where
     -- what was hashed so far is among the strings
     among_all : (v : Run) → IsFurther v whole → AreAmong v.hashed strings
@@ -123,20 +116,17 @@ module _ (lines : Lines) (view : List ℕ) (strings : List (List ℕ)) where
 
     ticks_along : (p : ℕ) (node : Node) → OfRun (λ w s. TakesStep whole p events.Tick node w s → GoesAlong Stands p (taken p events.Tick node) w s)
     ticks_along p node w steps holds takes = goes_along p takes.peer events.Tick node w steps
-        (stepped_goes lines sound view strings free p takes.peer w events.Tick node steps holds (calls_below steps w holds takes.few) takes.at tt (messages_may p events.Tick node w (state_after view steps) takes) (among_all (with_taken p (taken p events.Tick node) w) takes.further))
+        (stepped_goes lines sound view strings free p takes.peer w events.Tick node steps holds takes.few takes.at tt (messages_may p events.Tick node w (state_after view steps) takes) (among_all (with_taken p (taken p events.Tick node) w) takes.further))
 
     -- a message that was sent comes
     receives_along : (n : ℕ) (f : Frame) (node : Node) → OfRun (λ w s. slice_get w.mail.sent n ≡ Some f → nat_lt n w.first_alive ≡ false → TakesStep whole f.to (events.Deliver f.from f.message) node w s → GoesAlong Stands f.to (taken f.to (events.Deliver f.from f.message) node) w s)
     receives_along n f node w steps holds is later takes = goes_along f.to takes.peer event node w steps
-        (stepped_goes lines sound view strings free f.to takes.peer w event node steps holds few takes.at comes (messages_may f.to event node w (state_after view steps) takes) (among_all (with_taken f.to (taken f.to event node) w) takes.further))
+        (stepped_goes lines sound view strings free f.to takes.peer w event node steps holds takes.few takes.at comes (messages_may f.to event node w (state_after view steps) takes) (among_all (with_taken f.to (taken f.to event node) w) takes.further))
       where
         event : Event
         event = events.Deliver f.from f.message
 
-        few : length (state_after view steps).book.calls < 2 ^ 32
-        few = calls_below steps w holds takes.few
-
-        comes : MessageComes (scene lines sound view strings free f.to takes.peer w steps few holds.parts.asked holds.parts.firm) f.from f.message (state_after view steps)
+        comes : MessageComes (scene lines sound view strings free f.to takes.peer w steps takes.few holds.parts.asked holds.parts.firm) f.from f.message (state_after view steps)
         comes = record {
           is_peer = takes.comes.0;
           other = takes.comes.1;
@@ -150,7 +140,7 @@ module _ (lines : Lines) (view : List ℕ) (strings : List (List ℕ)) where
     takes_call_along : (p id : ℕ) (key : List ℕ) (command : Command) (node : Node) → MayStand peers (line.Call p id key command)
         → OfRun (λ w s. MayCall s.book (next_call s id key command) → TakesStep whole p (events.Call (call_of id key command)) node w (happens s (Ask (next_call s id key command))) → GoesAlong Stands p (taken p (events.Call (call_of id key command)) node) w (happens s (Ask (next_call s id key command))))
     takes_call_along p id key command node may w steps holds may_call takes = goes_along p takes.peer event node w (ask ∷ steps)
-        (called_goes lines sound view strings free p takes.peer w (call_of id key command) node steps holds few takes.at may_call come fewer (messages_may p event node w (happens s ask) takes) (among_all (with_taken p (taken p event node) w) takes.further))
+        (called_goes lines sound view strings free p takes.peer w (call_of id key command) node steps holds (some_few s.book.calls (happens s ask).book.calls (λ c at. inr at) takes.few) takes.at may_call come takes.few (messages_may p event node w (happens s ask) takes) (among_all (with_taken p (taken p event node) w) takes.further))
       where
         s : State
         s = state_after view steps
@@ -164,19 +154,10 @@ module _ (lines : Lines) (view : List ℕ) (strings : List (List ℕ)) where
         come : WorldHolds lines view strings (ask ∷ steps) w
         come = silent_holds steps ask w holds (tt, may_call) tt refl (asked_fit s id key command may.2 may.3 holds.parts.asked) refl
 
-        fewer : length (happens s ask).book.calls < 2 ^ 32
-        fewer = calls_below (ask ∷ steps) w come takes.few
-
-        few : length s.book.calls < 2 ^ 32
-        few = less (length s.book.calls) fewer
-          where
-            less : (n : ℕ) → suc n < 2 ^ 32 → n < 2 ^ 32
-            less n h = omega (arith, h)
-
     -- a peer is asked for a view that may vote
     takes_change_along : (p : ℕ) (asked : List ℕ) (node : Node) → asked ∈ lines.voting → OfRun (λ w s. TakesStep whole p (events.Change asked) node w s → GoesAlong Stands p (taken p (events.Change asked) node) w s)
     takes_change_along p asked node votes w steps holds takes = goes_along p takes.peer (events.Change asked) node w steps
-        (stepped_goes lines sound view strings free p takes.peer w (events.Change asked) node steps holds (calls_below steps w holds takes.few) takes.at votes (messages_may p (events.Change asked) node w (state_after view steps) takes)
+        (stepped_goes lines sound view strings free p takes.peer w (events.Change asked) node steps holds takes.few takes.at votes (messages_may p (events.Change asked) node w (state_after view steps) takes)
         (among_all (with_taken p (taken p (events.Change asked) node) w) takes.further))
 
     -- ## Lines that change the node of a peer

@@ -95,10 +95,10 @@ answers_put_out event peer out =
 -- ## Events
 
 -- the number of the next event is not at its limit
-next_is : (n m : ℕ) → 1 + n ≡ m → m < 2 ^ 32 → next_event n ≡ m
+next_is : (n m : ℕ) → 1 + n ≡ m → m < 2 ^ 64 → next_event n ≡ m
 next_is n m e few = omega arith
 
-all_counted : (n m : ℕ) → 1 + n ≡ m → m < 2 ^ 32 → 0 + next_event n ≡ m
+all_counted : (n m : ℕ) → 1 + n ≡ m → m < 2 ^ 64 → 0 + next_event n ≡ m
 all_counted n m e few = omega arith
 
 -- the beginning of an event opens it without calls
@@ -139,7 +139,7 @@ line_begins events event w b next old opens = record {
     ends : calls_from 1 (events ++ event ∷ []) ≡ calls_from 1 events ++ call_at event (b.now + 1) []
     ends = calls_end 1 events event ∙ ap (λ (n : ℕ). calls_from 1 events ++ call_at event n []) (number old.now)
 
-module _ (events : List ScheduleEvent) (few : length events < 2 ^ 32) where
+module _ (events : List ScheduleEvent) (few : length events < 2 ^ 64) where
   -- a peer takes a step
   pub taken_within : (peer : ℕ) (t : Taken) (w : Run) (b next : Book) → Within events w b → StepAgrees t b next → Within events (with_taken peer t w) next
   taken_within peer t w b next old agrees = record {

@@ -26,6 +26,8 @@ use Rattle.schedule_text.specs.declared.form.Form.{Form}
 use Rattle.schedule_text.specs.declared.event.ScheduleEvent.TheVariants as line
 use Rattle.schedule_text.proofs.Ids.{id_among}
 use Rattle.lexemes.specs.Spelling.{IsAmong}
+use Rattle.step_refinement.proofs.CalledKeys.{calls_below, run_calls_few}
+use Rattle.step_refinement.specs.Keys.{AreFew, CallsAreFew}
 use Rattle.role_laws.specs.Facts.{Lines}
 use Rattle.wire_frames.specs.declared.frame.Frame.{Frame}
 use Rattle.world_spec.proofs.Growth.{IsFurther, further_same, further_later, ticked_grows, calmed_grows, counted_grows, run_grows, applied_same}
@@ -61,11 +63,11 @@ pub record AreAlike (w v : Run) : Type 0 where
   pub hashed : v.hashed ≡ w.hashed
 
 -- the peer takes a step on the event: its node is this one, the whole run goes on from the world after
--- the step, and few events have begun
+-- the step, and few calls came
 pub record TakesStep (whole : Run) (p : ℕ) (event : Event) (node : Node) (w : Run) (s : State) : Type 0 where
   pub at : slice_get w.nodes (place_of p) ≡ Some node
   pub further : IsFurther (with_taken p (taken p event node) w) whole
-  pub few : s.book.now < 2 ^ 32
+  pub few : AreFew s.book.calls
   pub peer : IsPeer p
   pub comes : MayCome p event
   pub intact : IsIntact w
@@ -145,6 +147,14 @@ pub record IsCarried (peers : ℕ) (lines : Lines) (whole : Run) (P : Run → St
   pub alters : (p : ℕ) (f : HeldStores → HeldStores) (node : Node) (w : Run) (s : State) → SparesRecords f → IsAmong peers p → slice_get w.nodes (place_of p) ≡ Some node → P w s → Changes P p (over_stores f node) w s
   pub reverts : (p changes : ℕ) (node : Node) (w : Run) (s : State) → MayBeReverted lines p → IsAmong peers p → slice_get w.nodes (place_of p) ≡ Some node → P w s → Changes P p (while_down (taken_back changes) node) w s
 
+-- no more calls came than events
+few_in_run : (s : State) → IsInRun s → CallsAreFew s
+few_in_run s r = subst CallsAreFew r.is (run_calls_few r.view r.steps r.run)
+
+-- fewer than 2^32 events have numbers of eight bytes
+wide : (n : ℕ) → n < 2 ^ 32 → n < 2 ^ 64
+wide n less = omega (arith, less)
+
 -- ## Ids of calls
 
 pub id_called : (n : ℕ) (events : List ScheduleEvent) (c : Call) → c ∈ calls_from n events → c.id ∈ call_ids events
@@ -207,14 +217,18 @@ pub record IsAfter (peers : ℕ) (P : Run → State → Type 0) (events : List S
 
 module _ (peers : ℕ) (lines : Lines) (whole : Run) (P : Run → State → Type 0) (carried : IsCarried peers lines whole P) (small : peers ≤ 31) where
   module _ (events : List ScheduleEvent) (few : length events < 2 ^ 32) where
-    few_begun : (w : Run) (a : Reached P events w) → a.state.book.now < 2 ^ 32
-    few_begun w a = subst (λ (n : ℕ). n < 2 ^ 32) (sym a.within.now) few
+    -- fewer calls came than the line has for a number
+    few_begun : (w : Run) (a : Reached P events w) → AreFew a.state.book.calls
+    few_begun w a = calls_below a.state.book.calls (below (length a.state.book.calls) a.state.book.now (length events) (few_in_run a.state (carried.run w a.state a.holds)) a.within.now few)
+      where
+        below : (c n m : ℕ) → c ≤ n → n ≡ m → m < 2 ^ 32 → c < 2 ^ 32
+        below c n m less same few = omega (arith, less, same, few)
 
     stepped_reached : (p : ℕ) (event : Event) (w : Run) → IsPeer p → MayCome p event → ((node : Node) (s : State) → TakesStep whole p event node w s → P w s → GoesAlong P p (taken p event node) w s) → IsFurther (stepped p event w) whole → Reached P events w → Reached P events (stepped p event w)
     stepped_reached p event w peer come along far a = by_node (slice_get w.nodes (place_of p)) refl far
       where
         by_step : (node : Node) → slice_get w.nodes (place_of p) ≡ Some node → GoesAlong P p (taken p event node) w a.state → Reached P events (with_taken p (taken p event node) w)
-        by_step node at g = record { state = g.next; holds = g.holds; within = taken_within events few p (taken p event node) w a.state.book g.next.book a.within g.agrees; intact = taken_intact p event node w peer come at a.intact }
+        by_step node at g = record { state = g.next; holds = g.holds; within = taken_within events (wide (length events) few) p (taken p event node) w a.state.book g.next.book a.within g.agrees; intact = taken_intact p event node w peer come at a.intact }
 
         by_node : (o : Option Node) → slice_get w.nodes (place_of p) ≡ o → IsFurther (stepped_at o p event w) whole → Reached P events (stepped_at o p event w)
         by_node None at far = a
@@ -312,7 +326,7 @@ module _ (peers : ℕ) (lines : Lines) (whole : Run) (P : Run → State → Type
     line_over r = record {
       state = r.state;
       holds = carried.alike (effect event w) (applied event w) r.state (record { view = refl; tree = refl; first_alive = refl; nodes = refl; sent = refl; printed = refl; notes = refl; hashed = refl }) r.holds;
-      agrees = line_ends (done ++ event ∷ []) few event (effect event w) r.state.book r.within;
+      agrees = line_ends (done ++ event ∷ []) (wide (length (done ++ event ∷ [])) few) event (effect event w) r.state.book r.within;
       size = applied_same event w ∙ a.size;
       intact = alike_intact (effect event w) (applied event w) refl refl r.intact;
     }
@@ -331,8 +345,11 @@ module _ (peers : ℕ) (lines : Lines) (whole : Run) (P : Run → State → Type
       within : Within (done ++ line.Call p id key command ∷ []) w asked.book
       within = line_begins done (line.Call p id key command) w a.state.book asked.book a.agrees (ask_opens a.state c)
 
-      few_begun_here : asked.book.now < 2 ^ 32
-      few_begun_here = subst (λ (n : ℕ). n < 2 ^ 32) (sym within.now) few
+      few_begun_here : AreFew asked.book.calls
+      few_begun_here = calls_below asked.book.calls (below (length a.state.book.calls) a.state.book.now (length (done ++ line.Call p id key command ∷ [])) (few_in_run a.state (carried.run w a.state a.holds)) within.now few)
+        where
+          below : (c n m : ℕ) → c ≤ n → n + 1 ≡ m → m < 2 ^ 32 → suc c < 2 ^ 32
+          below c n m less same few = omega (arith, less, same, few)
 
       placed : 1 ≤ p → p ≤ peers → length w.nodes ≡ peers → place_of p < length w.nodes
       placed low high size = omega arith
@@ -344,7 +361,7 @@ module _ (peers : ℕ) (lines : Lines) (whole : Run) (P : Run → State → Type
       peer = is_peer peers p small may.0
 
       by_step : (node : Node) → slice_get w.nodes (place_of p) ≡ Some node → GoesAlong P p (taken p (does.Call (call_of id key command)) node) w asked → Reached P (done ++ line.Call p id key command ∷ []) (with_taken p (taken p (does.Call (call_of id key command)) node) w)
-      by_step node at g = record { state = g.next; holds = g.holds; within = taken_within (done ++ line.Call p id key command ∷ []) few p (taken p (does.Call (call_of id key command)) node) w asked.book g.next.book within g.agrees; intact = taken_intact p (does.Call (call_of id key command)) node w peer tt at a.intact }
+      by_step node at g = record { state = g.next; holds = g.holds; within = taken_within (done ++ line.Call p id key command ∷ []) (wide (length (done ++ line.Call p id key command ∷ [])) few) p (taken p (does.Call (call_of id key command)) node) w asked.book g.next.book within g.agrees; intact = taken_intact p (does.Call (call_of id key command)) node w peer tt at a.intact }
 
       by_node : (o : Option Node) → slice_get w.nodes (place_of p) ≡ o → IsFurther (stepped_at o p (does.Call (call_of id key command)) w) whole → Reached P (done ++ line.Call p id key command ∷ []) (stepped_at o p (does.Call (call_of id key command)) w)
       by_node None at far = absurd (none at (node_at w.nodes (place_of p) (placed may.0.first may.0.last a.size)))

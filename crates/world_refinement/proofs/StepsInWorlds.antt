@@ -1,5 +1,5 @@
 -- A step of one peer in a world: the world after it agrees with a run that goes on.
-use Rattle.std.proofs.Common.{◌≡◌, ℕ, suc, ◌<◌, ◌^◌, ◌⊎◌, inl, inr, true, false, List, [], ◌∷◌, ◌++◌, map, length, Some, slice_get, slice_set, append-nil, refl, sym, ap, ◌∙◌, subst}
+use Rattle.std.proofs.Common.{◌≡◌, ℕ, suc, ◌⊎◌, inl, inr, true, false, List, [], ◌∷◌, ◌++◌, map, length, Some, slice_get, slice_set, append-nil, refl, sym, ap, ◌∙◌, subst}
 use Rattle.ens_base.proofs.Lists.{in_left}
 use Rattle.std.specs.Prelude.{All, Bool}
 use Rattle.std.proofs.lemmas.Bool.{true≢false}
@@ -38,6 +38,7 @@ use Rattle.world_spec.proofs.Determined.{taken_strings}
 use Rattle.world_refinement.proofs.ChangedStores.{stopped_fits, PutsBack, TakesBack}
 use Rattle.world_refinement.proofs.HashedBefore.{behind, run_behind}
 use Rattle.step_refinement.proofs.CallByCall.{rest_task}
+use Rattle.step_refinement.specs.Keys.{AreFew}
 use Rattle.step_refinement.specs.Scenes.{Scene, Elsewhere, Reached, Here, EventComes, EndsBy}
 use Rattle.world_refinement.proofs.GivenAnswers.{owes, owed_all, AllGiven, all_given}
 use Rattle.step_refinement.specs.Steps.{asked_in}
@@ -209,7 +210,7 @@ module _ (version : TreeVersion) (first : ℕ) (lines : Lines) (view : List ℕ)
 
 module _ (lines : Lines) (sound : AreFirm lines) (view : List ℕ) (strings : List (List ℕ)) (free : AreFree strings) (p : ℕ) (peer : IsPeer p) (w : Run) where
   -- the scene of a step of the peer
-  abbrev pub scene : (before : List Step) → length (state_after view before).book.calls < 2 ^ 32 → AsksFit (state_after view before) → FirmAreKept lines (state_after view before) → Scene
+  abbrev pub scene : (before : List Step) → AreFew (state_after view before).book.calls → AsksFit (state_after view before) → FirmAreKept lines (state_after view before) → Scene
   scene before few asked firm = record {
     lines = lines;
     version = w.tree;
@@ -234,7 +235,7 @@ module _ (lines : Lines) (sound : AreFirm lines) (view : List ℕ) (strings : Li
     pub agrees : StepAgrees t (state_after view before).book (state_after view steps).book
 
   -- the peer before its step
-  abbrev pub here : (steps : List Step) (holds : WorldHolds lines view strings steps w) (few : length (state_after view steps).book.calls < 2 ^ 32) (x : PeerState) (stores : HeldStores) → slice_get w.nodes (place_of p) ≡ Some (Up x stores)
+  abbrev pub here : (steps : List Step) (holds : WorldHolds lines view strings steps w) (few : AreFew (state_after view steps).book.calls) (x : PeerState) (stores : HeldStores) → slice_get w.nodes (place_of p) ≡ Some (Up x stores)
       → Here (scene steps few holds.parts.asked holds.parts.firm) [] x (held_with stores w.hashed) nothing [] × IsAtRest x.phase
   here steps holds few x stores at = (
     record {
@@ -276,7 +277,7 @@ module _ (lines : Lines) (sound : AreFirm lines) (view : List ℕ) (strings : Li
       fits : UpFits w.tree lines strings w.hashed s p x stores
       fits = own_fits w.tree w.first_alive lines view strings p peer steps w.nodes w.mail.sent w.hashed w.notes (Up x stores) holds.parts at
 
-  module _ (before : List Step) (few : length (state_after view before).book.calls < 2 ^ 32) (parts : PartsHold w.tree w.first_alive lines view strings before w.nodes w.mail.sent w.hashed w.notes) (firm : FirmAreKept lines (state_after view before)) (node : Node)
+  module _ (before : List Step) (few : AreFew (state_after view before).book.calls) (parts : PartsHold w.tree w.first_alive lines view strings before w.nodes w.mail.sent w.hashed w.notes) (firm : FirmAreKept lines (state_after view before)) (node : Node)
       (at : slice_get w.nodes (place_of p) ≡ Some node) where
     -- the world after a step that ended well, or that a refusal ended
     ended_goes : (k : Ending PeerState) (held : Held) (ns : List Note) → EndsBy (scene before few parts.asked firm) k (behind w.hashed held) ns → All MayBeSent (with_taken p (taken_by k held ns) w).mail.sent → StepGoes before (taken_by k held ns)
@@ -391,15 +392,15 @@ module _ (lines : Lines) (sound : AreFirm lines) (view : List ℕ) (strings : Li
   }
 
   -- the step of a peer on an event that is no call
-  pub stepped_goes : (event : Event) (node : Node) (steps : List Step) (holds : WorldHolds lines view strings steps w) (few : length (state_after view steps).book.calls < 2 ^ 32) → slice_get w.nodes (place_of p) ≡ Some node
+  pub stepped_goes : (event : Event) (node : Node) (steps : List Step) (holds : WorldHolds lines view strings steps w) (few : AreFew (state_after view steps).book.calls) → slice_get w.nodes (place_of p) ≡ Some node
       → EventComes (scene steps few holds.parts.asked holds.parts.firm) event (state_after view steps) → All MayBeSent (with_taken p (taken p event node) w).mail.sent → AreAmong (with_taken p (taken p event node) w).hashed strings → StepGoes steps (taken p event node)
   stepped_goes event (Down stores) steps holds few at comes may among = down_goes steps holds event stores at
   stepped_goes event (Up x stores) steps holds few at comes may among = let begins = here steps holds few x stores at in
       ran_goes steps few holds.parts holds.parts.firm (Up x stores) at (step_of p event x) stores may among (λ all. steps_good (scene steps few holds.parts.asked holds.parts.firm) event x (held_with stores w.hashed) holds.parts.epochs begins comes all)
 
   -- the step of a peer on a call, which has come
-  pub called_goes : (call : CallIn) (node : Node) (steps : List Step) (holds : WorldHolds lines view strings steps w) → (few : length (state_after view steps).book.calls < 2 ^ 32) → slice_get w.nodes (place_of p) ≡ Some node → MayCall (state_after view steps).book (asked_in (state_after view steps) call)
-      → (come : WorldHolds lines view strings (Ask (asked_in (state_after view steps) call) ∷ steps) w) → length (state_after view (Ask (asked_in (state_after view steps) call) ∷ steps)).book.calls < 2 ^ 32
+  pub called_goes : (call : CallIn) (node : Node) (steps : List Step) (holds : WorldHolds lines view strings steps w) → (few : AreFew (state_after view steps).book.calls) → slice_get w.nodes (place_of p) ≡ Some node → MayCall (state_after view steps).book (asked_in (state_after view steps) call)
+      → (come : WorldHolds lines view strings (Ask (asked_in (state_after view steps) call) ∷ steps) w) → AreFew (state_after view (Ask (asked_in (state_after view steps) call) ∷ steps)).book.calls
       → All MayBeSent (with_taken p (taken p (events.Call call) node) w).mail.sent → AreAmong (with_taken p (taken p (events.Call call) node) w).hashed strings → StepGoes (Ask (asked_in (state_after view steps) call) ∷ steps) (taken p (events.Call call) node)
   called_goes call (Down stores) steps holds few at may_call come fewer may among = down_goes (Ask (asked_in (state_after view steps) call) ∷ steps) come (events.Call call) stores at
   called_goes call (Up x stores) steps holds few at may_call come fewer may among = let begins = here steps holds few x stores at in

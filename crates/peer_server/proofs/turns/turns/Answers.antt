@@ -26,7 +26,7 @@ loop-made-preserved g c =
         held.0 ++ one.turn ∷ [],
         omega (arith, held.1, length-append held.0 (one.turn ∷ [])),
         ended g.D.Disk.seen g.D.Disk.may_leave g.D.Disk.moment g.D.Disk.left_since g.D.Disk.fault_count g.L.Link.sent g.L.Link.given g.T.Ticker.coming c.args.words.now g.L.Link.fault_count c.args.server.now c.turn.new.server c.end_turn.new.server c.args.link.now c.turn.new.link c.end_turn.new.link c.args.ticker.now c.turn.new.ticker (held.0 ++ one.turn ∷ []) (c.loop-made.waiting + 1) c.in_ok-left.left
-            (turned g.D.Disk.seen g.D.Disk.may_leave g.D.Disk.moment g.D.Disk.left_since g.D.Disk.fault_count g.L.Link.sent g.L.Link.given g.T.Ticker.coming c.args.words.now c.args.server.now c.loop-made.server c.turn.new.server c.args.link.now c.loop-made.link c.turn.new.link c.args.ticker.now c.loop-made.ticker c.turn.new.ticker held.0 c.loop-made.waiting c.loop-made.counts c.turn.new.counts held.2 one c.turn.ensures.file c.turn.ensures.sent) c.in_ok-left.ensures.ended,
+            (omega arith) (turned g.D.Disk.seen g.D.Disk.may_leave g.D.Disk.moment g.D.Disk.left_since g.D.Disk.fault_count g.L.Link.sent g.L.Link.given g.T.Ticker.coming c.args.words.now c.args.server.now c.loop-made.server c.turn.new.server c.args.link.now c.loop-made.link c.turn.new.link c.args.ticker.now c.loop-made.ticker c.turn.new.ticker held.0 c.loop-made.waiting c.loop-made.counts c.turn.new.counts held.2 one c.turn.ensures.file c.turn.ensures.sent) c.in_ok-left.ensures.ended,
         counted_more c.args.words.now held.0 one.turn c.loop-made.counts c.turn.new.counts held.3 one.counted,
       );
       few = few_left g.D.Disk.seen g.D.Disk.may_leave g.D.Disk.moment g.D.Disk.left_since g.D.Disk.fault_count g.L.Link.sent g.L.Link.given g.L.Link.fault_count c.args.words.now.me (c.loop-made.waiting + 1) c.in_ok-left.left c.turn.new.server c.end_turn.new.server c.turn.new.link c.end_turn.new.link c.in_ok-left.ensures.ended;

@@ -20,7 +20,7 @@ returns-in_err-apply-clause-stops g c =
     let at = node_at c.args.script.now.events c.loop-place.place within in
     let old = c.loop-place.invariant in
     errs (IsStopped c.args.script.now _ _) c.from_residual-in_err-apply.result _ c.in_err-apply.field-0.0 c.from_residual-in_err-apply.ensures.1 (λ d e. e)
-    (stops c.args.script.now c.loop-place.place _ c.loop-place.run c.apply.new.self _ _ at.0 at.1 few old (Unit {0}) c.in_err-apply.field-0.0 (c.in_err-apply.ensures.goes _ at.0 at.1 old.stands))
+    (stops c.args.script.now c.loop-place.place _ c.loop-place.run c.apply.new.self _ _ at.0 at.1 few old (Unit {0}) c.in_err-apply.field-0.0 (c.in_err-apply.ensures.goes _ at.0 at.1 old.stands) (c.in_err-apply.ensures.stops _ at.0 at.1 old.stands))
 
 pub loop-place-preserved : goal.loop-place-preserved
 loop-place-preserved g c =

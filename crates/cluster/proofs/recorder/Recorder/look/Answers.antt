@@ -3,7 +3,7 @@ use Rattle.network.specs.Mail.{settled}
 use Rattle.cluster.specs.Recorders.{mail_in}
 use Rattle.cluster.specs.declared.recorder.Recorder.{Recorder}
 use Rattle.cluster.specs.declared.stop.Stop.TheVariants.{Link as OfLink}
-use Rattle.cluster.proofs.Looking.{found_in, hears_err, hears_message, hears_nothing, index_settled, index_stays, looked_on, looked_once, looks_failed, may_deliver, still_in_step, taken_none, taken_some}
+use Rattle.cluster.proofs.Looking.{found_in, hears_err, hears_message, hears_nothing, index_settled, index_stays, looked_none, looked_on, looked_once, looks_failed, may_deliver, still_in_step, taken_none, taken_some}
 use Rattle.cluster.proofs.recorder.Recorder.look.Goals as goal
 
 pub take_event-requires-clause-step : goal.take_event-requires-clause-step
@@ -22,6 +22,7 @@ pub returns-in_err-bytes-clause-hears : goal.returns-in_err-bytes-clause-hears
 returns-in_err-bytes-clause-hears g c = λ w first a looks r reached.
     hears_err g.L.Link.sent g.L.Link.given g.L.Link.fault_count w first a looks r c.args.link.now c.from_residual.result _ (OfLink c.in_err-bytes.field-0.0) c.args.self.now c.receive.new.self _ c.from_residual.ensures.1 (λ d same. same)
     (looks_failed g.L.Link.sent g.L.Link.given g.L.Link.fault_count w first a looks r c.args.self.now c.args.link.now c.receive.new.self _ c.in_err-bytes.field-0.0 reached c.in_err-bytes.ensures.given c.in_err-bytes.ensures.sent c.in_err-bytes.ensures.counts)
+    (looked_none g.L.Link.sent g.L.Link.given g.L.Link.fault_count w first a looks r c.args.link.now c.receive.new.self c.in_err-bytes.field-0.0 c.in_err-bytes.ensures.given c.in_err-bytes.ensures.sent)
 
 pub returns-in_default-clause-hears : goal.returns-in_default-clause-hears
 returns-in_default-clause-hears g c = λ w first a looks r reached.
