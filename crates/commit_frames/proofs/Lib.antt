@@ -1,0 +1,6 @@
+pub mod Numbers
+pub mod Lost
+pub mod Pieces
+pub mod Torn
+pub mod Leftovers
+pub mod ReadBack

@@ -1,0 +1,4 @@
+pub mod Digits
+pub mod Headers
+pub mod Frames
+pub mod Records

@@ -1,0 +1,4 @@
+pub mod Digits
+pub mod KeyLines
+pub mod Names
+pub mod Opening

@@ -1,0 +1,12 @@
+pub mod Answers
+pub mod Calls
+pub mod Conditions
+pub mod Fields
+pub mod Hosts
+pub mod Meanings
+pub mod Methods
+pub mod Outcomes
+pub mod Pages
+pub mod Problems
+pub mod Stamps
+pub mod Targets

@@ -1,0 +1,5 @@
+pub mod Exchanges
+pub mod Fronts
+pub mod Refusals
+pub mod Requests
+pub mod Runs
