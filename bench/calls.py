@@ -4,7 +4,7 @@
     bench/calls.py 20000 20000 1 >/tmp/keys;  time ./ensemble replay </tmp/keys
     bench/calls.py 20000 1 16    >/tmp/batch; time ./ensemble replay </tmp/batch
 
-A key takes at most 16 unanswered calls. bench/times.md has the measured times."""
+A key takes at most 16 unanswered calls. bench/README.md has the measured times."""
 import sys
 
 calls, keys, batch = (int(word) for word in sys.argv[1:])

@@ -5,7 +5,7 @@
     bench/elections.py 625 >/tmp/past;   time ./ensemble replay </tmp/past
 
 At each of these ticks the leader sends eight messages, which nobody receives: 624 lines stay just below the limit of
-500,000 messages, and one line more passes it. bench/times.md has the measured times."""
+500,000 messages, and one line more passes it. bench/README.md has the measured times."""
 import sys
 
 out = ['ensemble 1', 'peers 9', 'view 1 2 3 4 5 6 7 8 9', 'tick 1 6', 'calm']

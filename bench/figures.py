@@ -7,7 +7,7 @@
 Elapsed time, processor time and memory are the system's account of the process; memory below that of Python itself,
 some 14 MB, is not seen. Where `valgrind` is there, the runs of the second table show what does not depend on the hour:
 instructions, misses of the first-level caches of 32 KiB for instructions and data, and the functions that miss most.
-bench/times.md has measured tables."""
+bench/README.md has measured figures."""
 import os, re, shutil, subprocess, sys, tempfile, time
 
 HERE = os.path.dirname(os.path.abspath(__file__))

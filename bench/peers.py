@@ -5,7 +5,7 @@
     bench/peers.py                     all parts, one after another
     bench/peers.py idle peers etcd     these alone
 
-The parts are idle, peers, plain, etcd, perf, storm, calls and instructions. Each prints rows as bench/times.md has them.
+The parts are idle, peers, plain, etcd, perf, storm, calls and instructions. Each prints rows as bench/notebook.md has them.
 The files of the peers and of etcd lie below the folder TMPDIR, on one disk. etcd wants Debian's packages etcd-server and
 etcd-client, the last two parts want strace and valgrind, and rustc compiles the callers and the plain peers
 (bench/plain/load.rs and peer.rs)."""

@@ -4,7 +4,7 @@
     bench/schedules.py 1000 >/tmp/many; time ./ensemble replay </tmp/many >/dev/null
     bench/schedules.py 1    >/tmp/one;  time ./ensemble replay </tmp/one  >/dev/null
 
-bench/times.md has the measured times."""
+bench/README.md has the measured times."""
 import sys
 
 keys = int(sys.argv[1])

@@ -7,7 +7,7 @@ number is given).
 
 The plain program says how long each part takes; ours is timed from outside, once on all processors and once on one. A
 part of ours that reads a tree first builds one, so the time of one build, a twentieth of `builds`, is taken off.
-bench/times.md has measured tables."""
+bench/README.md has measured figures."""
 import os
 import re
 import subprocess

@@ -81,7 +81,7 @@ def frame(kind, body):
 
 
 def changed_at_each_byte(data, long):
-    """Each front, a byte more, and each byte at its least, at its greatest and beside what it was."""
+    """Each prefix, a byte more, and each byte at its least, at its greatest and beside what it was."""
     yield from (data[:size] for size in range(len(data)))
     yield data + b"\0"
     for at, old in enumerate(data):

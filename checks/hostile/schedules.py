@@ -182,7 +182,7 @@ def has_text(data, wanted):
 
 
 def prefixes(text):
-    """Each front of a text."""
+    """Each prefix of a text."""
     return [text[:size] for size in range(len(text) + 1)]
 
 
