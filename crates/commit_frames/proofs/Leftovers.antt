@@ -5,12 +5,11 @@ use Rattle.std.proofs.Math.Nat.{pow-suc}
 use Rattle.std.proofs.lemmas.Bool.Decides.{nat_tests}
 use Rattle.std.proofs.lemmas.List.{get_or-take, get_or-drop, length-take, take_all, append-nil}
 use Rattle.commit_frames.specs.Digits.{digits, kept_or, is_digit, below, number_in}
-use Rattle.commit_frames.specs.Headers.{front_bytes, header_bytes, mark_byte, FitsHeader}
+use Rattle.commit_frames.specs.Headers.{front_bytes, header_bytes, mark_byte, rest_of, FitsHeader}
 use Rattle.commit_frames.specs.Frames.{IsLostFrom}
 use Rattle.commit_frames.specs.declared.header.Header.{Header}
-use Rattle.commit_frames.specs.declared.mark.Mark.{Mark}
 use Rattle.commit_frames.proofs.Numbers.{length-digits}
-use Rattle.commit_frames.proofs.Pieces.{length-header, read_back, digits_at, pieces, first_byte, fits_at}
+use Rattle.commit_frames.proofs.Pieces.{length-header, read_back, digits_at, pieces, first_byte}
 
 pub lost_nil : (n : ℕ) (bytes : List ℕ) → length bytes ≡ 0 → IsLostFrom (digits (length bytes) n) bytes
 lost_nil n bytes none = record { size = sym (length-digits (length bytes) n); each = λ i lt. absurd (omega (arith, lt, none, length-digits (length bytes) n)) }
@@ -117,25 +116,24 @@ lost_number lost (suc k) n (b ∷ bs) low high fits left =
     )
 
 -- a header in pieces
-in_pieces : (bytes : List ℕ) → length bytes ≡ 34 → (get_or bytes 0 0 ∷ (take 9 (drop 1 bytes) ++ (take 9 (drop 10 bytes) ++ (take 5 (drop 19 bytes) ++ take 5 (drop 24 bytes))))) ++ take 5 (drop 29 bytes) ≡ bytes
+in_pieces : (bytes : List ℕ) → length bytes ≡ 44
+    → (get_or bytes 0 0 ∷ (take 9 (drop 1 bytes) ++ (take 9 (drop 10 bytes) ++ (take 5 (drop 19 bytes) ++ (take 5 (drop 24 bytes) ++ (take 5 (drop 29 bytes) ++ take 5 (drop 34 bytes))))))) ++ take 5 (drop 39 bytes) ≡ bytes
 in_pieces bytes size =
-    let last : take 10 (drop 19 bytes) ≡ take 5 (drop 19 bytes) ++ take 5 (drop 24 bytes) = pieces bytes 19 5 5 in
-    let more : take 19 (drop 10 bytes) ≡ take 9 (drop 10 bytes) ++ (take 5 (drop 19 bytes) ++ take 5 (drop 24 bytes)) = pieces bytes 10 9 10 ∙ ap (λ (l : List ℕ). take 9 (drop 10 bytes) ++ l) last in
-    let all : take 28 (drop 1 bytes) ≡ take 9 (drop 1 bytes) ++ (take 9 (drop 10 bytes) ++ (take 5 (drop 19 bytes) ++ take 5 (drop 24 bytes))) = pieces bytes 1 9 19 ∙ ap (λ (l : List ℕ). take 9 (drop 1 bytes) ++ l) more in
-    let front : take 29 bytes ≡ get_or bytes 0 0 ∷ (take 9 (drop 1 bytes) ++ (take 9 (drop 10 bytes) ++ (take 5 (drop 19 bytes) ++ take 5 (drop 24 bytes)))) =
-    take-add 1 28 bytes ∙ ap (λ (l : List ℕ). l ++ take 28 (drop 1 bytes)) (first_byte bytes (omega (arith, size))) ∙ ap (λ (l : List ℕ). get_or bytes 0 0 ∷ l) all in
-    let whole : take 34 bytes ≡ bytes = take_all 34 bytes (omega (arith, size)) in
-    ap (λ (l : List ℕ). l ++ take 5 (drop 29 bytes)) (sym front) ∙ sym (take-add 29 5 bytes) ∙ whole
-
-pub lost_header : (bytes : List ℕ) (h : Header) → length bytes ≡ 34 → (get_or bytes 0 0 ≡ 0) ⊎ (get_or bytes 0 0 ≡ mark_byte h.mark)
-    → IsLostFrom (digits 9 h.serial) (take 9 (drop 1 bytes)) → IsLostFrom (digits 9 h.first) (take 9 (drop 10 bytes)) → IsLostFrom (digits 5 h.length) (take 5 (drop 19 bytes))
-    → IsLostFrom (digits 5 h.zeros) (take 5 (drop 24 bytes)) → IsLostFrom (digits 5 h.check) (take 5 (drop 29 bytes)) → IsLostFrom (header_bytes h) bytes
-unfolding header_bytes front_bytes
-lost_header bytes h size mark a b c d e =
-    subst (λ (l : List ℕ). IsLostFrom (header_bytes h) l) (in_pieces bytes size)
-    (lost_append _ _ _ _
-    (lost_cons (mark_byte h.mark) (get_or bytes 0 0) (digits 9 h.serial ++ (digits 9 h.first ++ (digits 5 h.length ++ digits 5 h.zeros))) (take 9 (drop 1 bytes) ++ (take 9 (drop 10 bytes) ++ (take 5 (drop 19 bytes) ++ take 5 (drop 24 bytes)))) mark
-    (lost_append _ _ _ _ a (lost_append _ _ _ _ b (lost_append _ _ _ _ c d)))) e)
+    let u = take 5 (drop 29 bytes) in
+    let v = take 5 (drop 34 bytes) in
+    let d = take 5 (drop 24 bytes) in
+    let c = take 5 (drop 19 bytes) in
+    let b = take 9 (drop 10 bytes) in
+    let a = take 9 (drop 1 bytes) in
+    let twins : take 10 (drop 29 bytes) ≡ u ++ v = pieces bytes 29 5 5 in
+    let some : take 15 (drop 24 bytes) ≡ d ++ (u ++ v) = pieces bytes 24 5 10 ∙ ap (λ (l : List ℕ). d ++ l) twins in
+    let last : take 20 (drop 19 bytes) ≡ c ++ (d ++ (u ++ v)) = pieces bytes 19 5 15 ∙ ap (λ (l : List ℕ). c ++ l) some in
+    let more : take 29 (drop 10 bytes) ≡ b ++ (c ++ (d ++ (u ++ v))) = pieces bytes 10 9 20 ∙ ap (λ (l : List ℕ). b ++ l) last in
+    let all : take 38 (drop 1 bytes) ≡ a ++ (b ++ (c ++ (d ++ (u ++ v)))) = pieces bytes 1 9 29 ∙ ap (λ (l : List ℕ). a ++ l) more in
+    let front : take 39 bytes ≡ get_or bytes 0 0 ∷ (a ++ (b ++ (c ++ (d ++ (u ++ v))))) =
+    take-add 1 38 bytes ∙ ap (λ (l : List ℕ). l ++ take 38 (drop 1 bytes)) (first_byte bytes (omega (arith, size))) ∙ ap (λ (l : List ℕ). get_or bytes 0 0 ∷ l) all in
+    let whole : take 44 bytes ≡ bytes = take_all 44 bytes (omega (arith, size)) in
+    ap (λ (l : List ℕ). l ++ take 5 (drop 39 bytes)) (sym front) ∙ sym (take-add 39 5 bytes) ∙ whole
 
 -- the pieces of what is left of a header
 pub record ArePieces (h : Header) (bytes : List ℕ) : Type 0 where
@@ -144,20 +142,42 @@ pub record ArePieces (h : Header) (bytes : List ℕ) : Type 0 where
   pub first : IsLostFrom (digits 9 h.first) (take 9 (drop 10 bytes))
   pub size : IsLostFrom (digits 5 h.length) (take 5 (drop 19 bytes))
   pub zeros : IsLostFrom (digits 5 h.zeros) (take 5 (drop 24 bytes))
-  pub check : IsLostFrom (digits 5 h.check) (take 5 (drop 29 bytes))
+  pub size_twin : IsLostFrom (digits 5 (rest_of h.length)) (take 5 (drop 29 bytes))
+  pub zeros_twin : IsLostFrom (digits 5 (rest_of h.zeros)) (take 5 (drop 34 bytes))
+  pub check : IsLostFrom (digits 5 h.check) (take 5 (drop 39 bytes))
+
+pub lost_header : (bytes : List ℕ) (h : Header) → length bytes ≡ 44 → ArePieces h bytes → IsLostFrom (header_bytes h) bytes
+unfolding header_bytes front_bytes
+lost_header bytes h size p =
+    subst (λ (l : List ℕ). IsLostFrom (header_bytes h) l) (in_pieces bytes size)
+    (lost_append _ _ _ _
+    (lost_cons (mark_byte h.mark) (get_or bytes 0 0) _ _ p.mark
+    (lost_append _ _ _ _ p.serial
+    (lost_append _ _ _ _ p.first
+    (lost_append _ _ _ _ p.size
+    (lost_append _ _ _ _ p.zeros
+    (lost_append _ _ _ _ p.size_twin p.zeros_twin)))))) p.check)
+
+-- the digits at a place of a header, and what is left of them
+one_piece : (h : Header) (bytes : List ℕ) (i k n : ℕ) → i + k ≤ 44 → IsLostFrom (header_bytes h) bytes → number_in 0 (take k (drop i (header_bytes h))) ≡ Some n → IsLostFrom (digits k n) (take k (drop i bytes))
+one_piece h bytes i k n le lost is =
+    let whole = header_bytes h in
+    let long : i + k ≤ length whole = omega (arith, le, length-header h) in
+    subst (λ (l : List ℕ). IsLostFrom l (take k (drop i bytes))) (digits_at whole i k n long is) (lost_piece whole bytes i k long lost)
 
 pub header_pieces : (h : Header) (bytes : List ℕ) → FitsHeader h → IsLostFrom (header_bytes h) bytes → ArePieces h bytes
 header_pieces h bytes fits lost =
     let whole = header_bytes h in
     let read = read_back whole h [] fits (sym (append-nil whole)) in
-    let size = length-header h in
     record {
-      mark = ⊎_elim (λ z. inl z) (λ (e : get_or bytes 0 0 ≡ get_or whole 0 0). inr (e ∙ read.mark)) (lost.each 0 (omega (arith, size)));
-      serial = subst (λ (l : List ℕ). IsLostFrom l (take 9 (drop 1 bytes))) (digits_at whole 1 9 h.serial (omega (arith, size)) read.serial) (lost_piece whole bytes 1 9 (omega (arith, size)) lost);
-      first = subst (λ (l : List ℕ). IsLostFrom l (take 9 (drop 10 bytes))) (digits_at whole 10 9 h.first (omega (arith, size)) read.first) (lost_piece whole bytes 10 9 (omega (arith, size)) lost);
-      size = subst (λ (l : List ℕ). IsLostFrom l (take 5 (drop 19 bytes))) (digits_at whole 19 5 h.length (omega (arith, size)) read.size) (lost_piece whole bytes 19 5 (omega (arith, size)) lost);
-      zeros = subst (λ (l : List ℕ). IsLostFrom l (take 5 (drop 24 bytes))) (digits_at whole 24 5 h.zeros (omega (arith, size)) read.zeros) (lost_piece whole bytes 24 5 (omega (arith, size)) lost);
-      check = subst (λ (l : List ℕ). IsLostFrom l (take 5 (drop 29 bytes))) (digits_at whole 29 5 h.check (omega (arith, size)) read.check) (lost_piece whole bytes 29 5 (omega (arith, size)) lost);
+      mark = ⊎_elim (λ z. inl z) (λ (e : get_or bytes 0 0 ≡ get_or whole 0 0). inr (e ∙ read.mark)) (lost.each 0 (omega (arith, length-header h)));
+      serial = one_piece h bytes 1 9 h.serial (omega arith) lost read.serial;
+      first = one_piece h bytes 10 9 h.first (omega arith) lost read.first;
+      size = one_piece h bytes 19 5 h.length (omega arith) lost read.size;
+      zeros = one_piece h bytes 24 5 h.zeros (omega arith) lost read.zeros;
+      size_twin = one_piece h bytes 29 5 (rest_of h.length) (omega arith) lost read.size_twin;
+      zeros_twin = one_piece h bytes 34 5 (rest_of h.zeros) (omega arith) lost read.zeros_twin;
+      check = one_piece h bytes 39 5 h.check (omega arith) lost read.check;
     }
 
 pub none_some : {A : Type 0} (o : Option A) (x : A) → None ≡ o → o ≡ Some x → ⊥
@@ -172,7 +192,7 @@ of_size bytes i k n m long same lost =
     let size : k ≡ length (take k (drop i bytes)) = omega (arith, long, length-take k (drop i bytes), length-drop i bytes) in
     subst (λ (j : ℕ). IsLostFrom (digits j m) (take k (drop i bytes))) size (subst (λ (j : ℕ). IsLostFrom (digits k j) (take k (drop i bytes))) same lost)
 
-with_size : (bytes : List ℕ) (i k n : ℕ) → i + k ≤ length bytes → IsLostFrom (digits (length (take k (drop i bytes))) n) (take k (drop i bytes)) → IsLostFrom (digits k n) (take k (drop i bytes))
+pub with_size : (bytes : List ℕ) (i k n : ℕ) → i + k ≤ length bytes → IsLostFrom (digits (length (take k (drop i bytes))) n) (take k (drop i bytes)) → IsLostFrom (digits k n) (take k (drop i bytes))
 with_size bytes i k n long lost =
     let size : length (take k (drop i bytes)) ≡ k = omega (arith, long, length-take k (drop i bytes), length-drop i bytes) in
     subst (λ (j : ℕ). IsLostFrom (digits j n) (take k (drop i bytes))) size lost
@@ -182,25 +202,8 @@ pub record WasRead (lost : ℕ) (bytes : List ℕ) (i k n : ℕ) : Type 0 where
   pub value : Some n ≡ number_in lost (take k (drop i bytes))
   pub below : n < 128 ^ length (take k (drop i bytes))
 
-piece_read : (lost : ℕ) (bytes : List ℕ) (i k n : ℕ) → i + k ≤ length bytes → WasRead lost bytes i k n → IsLostFrom (digits k n) (take k (drop i bytes))
+pub piece_read : (lost : ℕ) (bytes : List ℕ) (i k n : ℕ) → i + k ≤ length bytes → WasRead lost bytes i k n → IsLostFrom (digits k n) (take k (drop i bytes))
 piece_read lost bytes i k n long read = with_size bytes i k n long (filled lost (take k (drop i bytes)) n (sym read.value))
 
--- a header of which these bytes may be left
-pub header_there : (bytes : List ℕ) (serial first size zeros check : ℕ) (m : Mark) → length bytes ≡ 34 → serial < 2 ^ 63 → (get_or bytes 0 0 ≡ 0) ⊎ (get_or bytes 0 0 ≡ mark_byte m) → IsLostFrom (digits (length (take 9 (drop 1 bytes))) serial) (take 9 (drop 1 bytes))
-    → WasRead 128 bytes 10 9 first → WasRead 255 bytes 19 5 size → WasRead 128 bytes 24 5 zeros → WasRead 128 bytes 29 5 check → (h : Header) × FitsHeader h × (h.serial ≡ serial) × (h.length ≡ size) × (h.zeros ≡ zeros) × IsLostFrom (header_bytes h) bytes
-header_there bytes serial first size zeros check m long small mark numbered a b c d =
-    let h : Header = record { mark = m; serial = serial; first = first; length = size; zeros = zeros; check = check } in (
-      h,
-      record {
-        serial = small;
-        first = fits_at bytes 10 9 first (omega (arith, long)) a.below;
-        size = fits_at bytes 19 5 size (omega (arith, long)) b.below;
-        zeros = fits_at bytes 24 5 zeros (omega (arith, long)) c.below;
-        check = fits_at bytes 29 5 check (omega (arith, long)) d.below;
-      },
-      refl,
-      refl,
-      refl,
-      lost_header bytes h long mark (with_size bytes 1 9 serial (omega (arith, long)) numbered) (piece_read 128 bytes 10 9 first (omega (arith, long)) a) (piece_read 255 bytes 19 5 size (omega (arith, long)) b)
-          (piece_read 128 bytes 24 5 zeros (omega (arith, long)) c) (piece_read 128 bytes 29 5 check (omega (arith, long)) d),
-    )
+pub header_there : (bytes : List ℕ) (h : Header) → length bytes ≡ 44 → FitsHeader h → ArePieces h bytes → (g : Header) × FitsHeader g × (g.serial ≡ h.serial) × (g.length ≡ h.length) × (g.zeros ≡ h.zeros) × IsLostFrom (header_bytes g) bytes
+header_there bytes h size fits pieces = (h, fits, refl, refl, refl, lost_header bytes h size pieces)

@@ -6,22 +6,22 @@ use Rattle.std.proofs.lemmas.List.Sums.{sum_by-cons}
 use Rattle.commit_frames.specs.Headers.{zeros_in}
 use Rattle.commit_frames.specs.Frames.{IsLostFrom}
 
-one_zero : ℕ → ℕ
+pub one_zero : ℕ → ℕ
 one_zero b = cond (eqb b 0) 1 0
 
-zeros_cons : (b : ℕ) (bs : List ℕ) → zeros_in (b ∷ bs) ≡ one_zero b + zeros_in bs
+pub zeros_cons : (b : ℕ) (bs : List ℕ) → zeros_in (b ∷ bs) ≡ one_zero b + zeros_in bs
 unfolding one_zero
 zeros_cons b bs = sum_by-cons (λ y. cond (eqb y 0) 1 0) b bs
 
-zero_one : one_zero 0 ≡ 1
+pub zero_one : one_zero 0 ≡ 1
 unfolding one_zero
 zero_one = refl
 
-other_none : (b : ℕ) → (b ≡ 0 → ⊥) → one_zero b ≡ 0
+pub other_none : (b : ℕ) → (b ≡ 0 → ⊥) → one_zero b ≡ 0
 unfolding one_zero
 other_none b ne = grind (arith, nat_tests)
 
-at_most_one : (b : ℕ) → one_zero b ≤ 1
+pub at_most_one : (b : ℕ) → one_zero b ≤ 1
 unfolding one_zero
 at_most_one b = grind (arith, nat_tests)
 

@@ -3,27 +3,31 @@ use Rattle.std.proofs.Common.{◌≡◌, ℕ, ◌+◌, ◌<◌, ◌≤◌, ◌^�
 use Rattle.std.proofs.Math.Seq.{take-add}
 use Rattle.std.proofs.lemmas.List.{take_at, drop_at, drop-drop, length-take, length-drop}
 use Rattle.commit_frames.specs.Digits.{digits, number_in}
-use Rattle.commit_frames.specs.Headers.{front_bytes, header_bytes, mark_byte, FitsHeader}
+use Rattle.commit_frames.specs.Headers.{front_bytes, header_bytes, mark_byte, rest_of, FitsHeader}
 use Rattle.commit_frames.specs.declared.header.Header.{Header}
 use Rattle.commit_frames.specs.declared.mark.Mark.{Mark}
 use Rattle.commit_frames.specs.declared.mark.Mark.TheVariants as marks
 use Rattle.commit_frames.proofs.Numbers.{length-digits, number_digits, digits_number}
 
-pub length-front : (m : Mark) (serial first size zeros : ℕ) → length (front_bytes m serial first size zeros) ≡ 29
+pub length-front : (m : Mark) (serial first size zeros : ℕ) → length (front_bytes m serial first size zeros) ≡ 39
 unfolding front_bytes
 length-front m serial first size zeros =
     omega (
       arith,
-      length-append (digits 9 serial) (digits 9 first ++ (digits 5 size ++ digits 5 zeros)),
-      length-append (digits 9 first) (digits 5 size ++ digits 5 zeros),
-      length-append (digits 5 size) (digits 5 zeros),
+      length-append (digits 9 serial) (digits 9 first ++ (digits 5 size ++ (digits 5 zeros ++ (digits 5 (rest_of size) ++ digits 5 (rest_of zeros))))),
+      length-append (digits 9 first) (digits 5 size ++ (digits 5 zeros ++ (digits 5 (rest_of size) ++ digits 5 (rest_of zeros)))),
+      length-append (digits 5 size) (digits 5 zeros ++ (digits 5 (rest_of size) ++ digits 5 (rest_of zeros))),
+      length-append (digits 5 zeros) (digits 5 (rest_of size) ++ digits 5 (rest_of zeros)),
+      length-append (digits 5 (rest_of size)) (digits 5 (rest_of zeros)),
       length-digits 9 serial,
       length-digits 9 first,
       length-digits 5 size,
       length-digits 5 zeros,
+      length-digits 5 (rest_of size),
+      length-digits 5 (rest_of zeros),
     )
 
-pub length-header : (h : Header) → length (header_bytes h) ≡ 34
+pub length-header : (h : Header) → length (header_bytes h) ≡ 44
 unfolding header_bytes
 length-header h = omega (arith, length-front h.mark h.serial h.first h.length h.zeros, length-append (front_bytes h.mark h.serial h.first h.length h.zeros) (digits 5 h.check), length-digits 5 h.check)
 
@@ -34,9 +38,11 @@ pub record IsRead (bytes : List ℕ) (h : Header) : Type 0 where
   pub first : number_in 0 (take 9 (drop 10 bytes)) ≡ Some h.first
   pub size : number_in 0 (take 5 (drop 19 bytes)) ≡ Some h.length
   pub zeros : number_in 0 (take 5 (drop 24 bytes)) ≡ Some h.zeros
-  pub check : number_in 0 (take 5 (drop 29 bytes)) ≡ Some h.check
+  pub size_twin : number_in 0 (take 5 (drop 29 bytes)) ≡ Some (rest_of h.length)
+  pub zeros_twin : number_in 0 (take 5 (drop 34 bytes)) ≡ Some (rest_of h.zeros)
+  pub check : number_in 0 (take 5 (drop 39 bytes)) ≡ Some h.check
 
-pub first_byte : (bytes : List ℕ) → 34 ≤ length bytes → take 1 bytes ≡ get_or bytes 0 0 ∷ []
+pub first_byte : (bytes : List ℕ) → 44 ≤ length bytes → take 1 bytes ≡ get_or bytes 0 0 ∷ []
 first_byte [] long = absurd (omega arith)
 first_byte (byte ∷ bytes) long = refl
 
@@ -55,20 +61,26 @@ fits_at bytes i k n long lt =
 pub pieces : (bytes : List ℕ) (i n m : ℕ) → take (n + m) (drop i bytes) ≡ take n (drop i bytes) ++ take m (drop (i + n) bytes)
 pieces bytes i n m = take-add n m (drop i bytes) ∙ ap (λ (l : List ℕ). take n (drop i bytes) ++ take m l) (drop-drop n i bytes)
 
-pub spelled : (bytes : List ℕ) (h : Header) → 34 ≤ length bytes → IsRead bytes h → take 34 bytes ≡ header_bytes h
+pub spelled : (bytes : List ℕ) (h : Header) → 44 ≤ length bytes → IsRead bytes h → take 44 bytes ≡ header_bytes h
 unfolding header_bytes front_bytes
 spelled bytes h long is =
     let serial = digits_at bytes 1 9 h.serial (omega arith) is.serial in
     let first = digits_at bytes 10 9 h.first (omega arith) is.first in
     let size = digits_at bytes 19 5 h.length (omega arith) is.size in
     let zeros = digits_at bytes 24 5 h.zeros (omega arith) is.zeros in
-    let check = digits_at bytes 29 5 h.check (omega arith) is.check in
-    let last : take 10 (drop 19 bytes) ≡ digits 5 h.length ++ digits 5 h.zeros = pieces bytes 19 5 5 ∙ (λ i. size i ++ zeros i) in
-    let more : take 19 (drop 10 bytes) ≡ digits 9 h.first ++ (digits 5 h.length ++ digits 5 h.zeros) = pieces bytes 10 9 10 ∙ (λ i. first i ++ last i) in
-    let all : take 28 (drop 1 bytes) ≡ digits 9 h.serial ++ (digits 9 h.first ++ (digits 5 h.length ++ digits 5 h.zeros)) = pieces bytes 1 9 19 ∙ (λ i. serial i ++ more i) in
-    let front : take 29 bytes ≡ mark_byte h.mark ∷ (digits 9 h.serial ++ (digits 9 h.first ++ (digits 5 h.length ++ digits 5 h.zeros))) =
-    take-add 1 28 bytes ∙ ap (λ (l : List ℕ). l ++ take 28 (drop 1 bytes)) (first_byte bytes long) ∙ (λ i. is.mark i ∷ all i) in
-    take-add 29 5 bytes ∙ (λ i. front i ++ check i)
+    let size_twin = digits_at bytes 29 5 (rest_of h.length) (omega arith) is.size_twin in
+    let zeros_twin = digits_at bytes 34 5 (rest_of h.zeros) (omega arith) is.zeros_twin in
+    let check = digits_at bytes 39 5 h.check (omega arith) is.check in
+    let twins : take 10 (drop 29 bytes) ≡ digits 5 (rest_of h.length) ++ digits 5 (rest_of h.zeros) = pieces bytes 29 5 5 ∙ (λ i. size_twin i ++ zeros_twin i) in
+    let some : take 15 (drop 24 bytes) ≡ digits 5 h.zeros ++ (digits 5 (rest_of h.length) ++ digits 5 (rest_of h.zeros)) = pieces bytes 24 5 10 ∙ (λ i. zeros i ++ twins i) in
+    let last : take 20 (drop 19 bytes) ≡ digits 5 h.length ++ (digits 5 h.zeros ++ (digits 5 (rest_of h.length) ++ digits 5 (rest_of h.zeros))) = pieces bytes 19 5 15 ∙ (λ i. size i ++ some i) in
+    let more : take 29 (drop 10 bytes) ≡ digits 9 h.first ++ (digits 5 h.length ++ (digits 5 h.zeros ++ (digits 5 (rest_of h.length) ++ digits 5 (rest_of h.zeros)))) =
+    pieces bytes 10 9 20 ∙ (λ i. first i ++ last i) in
+    let all : take 38 (drop 1 bytes) ≡ digits 9 h.serial ++ (digits 9 h.first ++ (digits 5 h.length ++ (digits 5 h.zeros ++ (digits 5 (rest_of h.length) ++ digits 5 (rest_of h.zeros))))) =
+    pieces bytes 1 9 29 ∙ (λ i. serial i ++ more i) in
+    let front : take 39 bytes ≡ mark_byte h.mark ∷ (digits 9 h.serial ++ (digits 9 h.first ++ (digits 5 h.length ++ (digits 5 h.zeros ++ (digits 5 (rest_of h.length) ++ digits 5 (rest_of h.zeros)))))) =
+    take-add 1 38 bytes ∙ ap (λ (l : List ℕ). l ++ take 38 (drop 1 bytes)) (first_byte bytes long) ∙ (λ i. is.mark i ∷ all i) in
+    take-add 39 5 bytes ∙ (λ i. front i ++ check i)
 
 -- the piece at the front of the bytes from a place on, and the bytes after it
 next_piece : (bytes a b : List ℕ) (i n : ℕ) → drop i bytes ≡ a ++ b → length a ≡ n → drop (i + n) bytes ≡ b
@@ -78,6 +90,9 @@ read_piece : (bytes a b : List ℕ) (i n m : ℕ) → drop i bytes ≡ a ++ b �
 read_piece bytes a b i n m is are fits =
     ap (λ (l : List ℕ). number_in 0 (take n l)) is ∙ ap (number_in 0) (take_at a b n (ap (λ (l : List ℕ). length l) are ∙ length-digits n m)) ∙ ap (number_in 0) are ∙ number_digits 0 n m fits
 
+rest_fits : (n : ℕ) → rest_of n < 2 ^ 35
+rest_fits n = omega arith
+
 pub read_back : (bytes : List ℕ) (h : Header) (rest : List ℕ) → FitsHeader h → bytes ≡ header_bytes h ++ rest → IsRead bytes h
 unfolding header_bytes front_bytes
 read_back bytes h rest fits is =
@@ -85,20 +100,26 @@ read_back bytes h rest fits is =
     let b = digits 9 h.first in
     let c = digits 5 h.length in
     let d = digits 5 h.zeros in
+    let u = digits 5 (rest_of h.length) in
+    let v = digits 5 (rest_of h.zeros) in
     let e = digits 5 h.check in
-    let at : bytes ≡ mark_byte h.mark ∷ (a ++ (b ++ (c ++ (d ++ (e ++ rest))))) = is ∙ simp append_assoc in
-    let at1 : drop 1 bytes ≡ a ++ (b ++ (c ++ (d ++ (e ++ rest)))) = ap (drop 1) at in
-    let at10 : drop 10 bytes ≡ b ++ (c ++ (d ++ (e ++ rest))) = next_piece bytes a (b ++ (c ++ (d ++ (e ++ rest)))) 1 9 at1 (length-digits 9 h.serial) in
-    let at19 : drop 19 bytes ≡ c ++ (d ++ (e ++ rest)) = next_piece bytes b (c ++ (d ++ (e ++ rest))) 10 9 at10 (length-digits 9 h.first) in
-    let at24 : drop 24 bytes ≡ d ++ (e ++ rest) = next_piece bytes c (d ++ (e ++ rest)) 19 5 at19 (length-digits 5 h.length) in
-    let at29 : drop 29 bytes ≡ e ++ rest = next_piece bytes d (e ++ rest) 24 5 at24 (length-digits 5 h.zeros) in
+    let at : bytes ≡ mark_byte h.mark ∷ (a ++ (b ++ (c ++ (d ++ (u ++ (v ++ (e ++ rest))))))) = is ∙ simp append_assoc in
+    let at1 : drop 1 bytes ≡ a ++ (b ++ (c ++ (d ++ (u ++ (v ++ (e ++ rest)))))) = ap (drop 1) at in
+    let at10 : drop 10 bytes ≡ b ++ (c ++ (d ++ (u ++ (v ++ (e ++ rest))))) = next_piece bytes a (b ++ (c ++ (d ++ (u ++ (v ++ (e ++ rest)))))) 1 9 at1 (length-digits 9 h.serial) in
+    let at19 : drop 19 bytes ≡ c ++ (d ++ (u ++ (v ++ (e ++ rest)))) = next_piece bytes b (c ++ (d ++ (u ++ (v ++ (e ++ rest))))) 10 9 at10 (length-digits 9 h.first) in
+    let at24 : drop 24 bytes ≡ d ++ (u ++ (v ++ (e ++ rest))) = next_piece bytes c (d ++ (u ++ (v ++ (e ++ rest)))) 19 5 at19 (length-digits 5 h.length) in
+    let at29 : drop 29 bytes ≡ u ++ (v ++ (e ++ rest)) = next_piece bytes d (u ++ (v ++ (e ++ rest))) 24 5 at24 (length-digits 5 h.zeros) in
+    let at34 : drop 34 bytes ≡ v ++ (e ++ rest) = next_piece bytes u (v ++ (e ++ rest)) 29 5 at29 (length-digits 5 (rest_of h.length)) in
+    let at39 : drop 39 bytes ≡ e ++ rest = next_piece bytes v (e ++ rest) 34 5 at34 (length-digits 5 (rest_of h.zeros)) in
     record {
       mark = ap (λ (l : List ℕ). get_or l 0 0) at;
-      serial = read_piece bytes a (b ++ (c ++ (d ++ (e ++ rest)))) 1 9 h.serial at1 refl fits.serial;
-      first = read_piece bytes b (c ++ (d ++ (e ++ rest))) 10 9 h.first at10 refl fits.first;
-      size = read_piece bytes c (d ++ (e ++ rest)) 19 5 h.length at19 refl fits.size;
-      zeros = read_piece bytes d (e ++ rest) 24 5 h.zeros at24 refl fits.zeros;
-      check = read_piece bytes e rest 29 5 h.check at29 refl fits.check;
+      serial = read_piece bytes a (b ++ (c ++ (d ++ (u ++ (v ++ (e ++ rest)))))) 1 9 h.serial at1 refl fits.serial;
+      first = read_piece bytes b (c ++ (d ++ (u ++ (v ++ (e ++ rest))))) 10 9 h.first at10 refl fits.first;
+      size = read_piece bytes c (d ++ (u ++ (v ++ (e ++ rest)))) 19 5 h.length at19 refl fits.size;
+      zeros = read_piece bytes d (u ++ (v ++ (e ++ rest))) 24 5 h.zeros at24 refl fits.zeros;
+      size_twin = read_piece bytes u (v ++ (e ++ rest)) 29 5 (rest_of h.length) at29 refl (rest_fits h.length);
+      zeros_twin = read_piece bytes v (e ++ rest) 34 5 (rest_of h.zeros) at34 refl (rest_fits h.zeros);
+      check = read_piece bytes e rest 39 5 h.check at39 refl fits.check;
     }
 
 mark_same : (m n : Mark) → mark_byte m ≡ mark_byte n → m ≡ n

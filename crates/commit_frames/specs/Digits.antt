@@ -1,5 +1,5 @@
 -- Numbers in bytes of which none is 0: 128 and seven bits each, the lowest bits first.
-use Rattle.std.specs.Prelude.{ℕ, zero, suc, ◌+◌, ◌*◌, ◌-◌, ◌/◌, ◌%◌, List, [], ◌∷◌, Option, Some, None, Bool, true, ◌==◌, ◌&&◌, nat_le, nat_lt, if◌then◌else◌}
+use Rattle.std.specs.Prelude.{ℕ, zero, suc, ◌+◌, ◌*◌, ◌-◌, ◌/◌, ◌%◌, List, [], ◌∷◌, Option, Some, None, Bool, true, ◌==◌, ◌&&◌, ◌||◌, nat_le, nat_lt, if◌then◌else◌}
 
 -- the digits of a number, so many
 unfoldable pub digits : ℕ → ℕ → List ℕ
@@ -22,3 +22,8 @@ below is byte others = None
 abbrev pub number_in : ℕ → List ℕ → Option ℕ
 number_in lost [] = Some 0
 number_in lost (byte ∷ bytes) = below (is_digit (kept_or lost byte)) (kept_or lost byte) (number_in lost bytes)
+
+-- a digit that was spelled twice, the second time as 383 less it: the one that the two bytes tell, 0 if both were lost;
+-- none if they tell no digit or two
+abbrev pub either : (byte twin : ℕ) → Option ℕ
+either byte twin = if twin == 0 then Some byte else (if is_digit twin && (byte == 0 || byte == 383 - twin) then Some (383 - twin) else None)

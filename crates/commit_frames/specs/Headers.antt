@@ -1,5 +1,5 @@
--- The header of a frame: a mark, and five numbers in digits of which no byte is 0.
-use Rattle.std.specs.Prelude.{◌≡◌, ℕ, ◌<◌, ◌^◌, List, ◌∷◌, ◌++◌, length, take, count_by, ◌==◌}
+-- The header of a frame: a mark, and numbers in digits of which no byte is 0, two of them spelled twice.
+use Rattle.std.specs.Prelude.{◌≡◌, ℕ, ◌-◌, ◌<◌, ◌^◌, List, ◌∷◌, ◌++◌, length, take, count_by, ◌==◌}
 use Rattle.std.specs.Int.{w32, from_be_bytes}
 use Rattle.md5.specs.Md5.{md5}
 use Rattle.commit_frames.specs.Digits.{digits}
@@ -14,10 +14,15 @@ mark_byte marks.Part = 180
 mark_byte marks.Turn = 218
 mark_byte marks.Cancel = 173
 
+-- how much smaller a number is than the greatest of five digits: each digit of the one tells that of the other
+abbrev pub rest_of : ℕ → ℕ
+rest_of n = 2 ^ 35 - 1 - n
+
 -- the header up to its check: the mark, the serial number of the frame and of the first one that counts,
--- the length of the payload and how many of its bytes are 0
+-- the length of the payload and how many of its bytes are 0, and what is left of these two
 unfoldable pub front_bytes : Mark → (serial first size zeros : ℕ) → List ℕ
-front_bytes mark serial first size zeros = mark_byte mark ∷ (digits 9 serial ++ (digits 9 first ++ (digits 5 size ++ digits 5 zeros)))
+front_bytes mark serial first size zeros =
+    mark_byte mark ∷ (digits 9 serial ++ (digits 9 first ++ (digits 5 size ++ (digits 5 zeros ++ (digits 5 (rest_of size) ++ digits 5 (rest_of zeros))))))
 
 unfoldable pub header_bytes : Header → List ℕ
 header_bytes h = front_bytes h.mark h.serial h.first h.length h.zeros ++ digits 5 h.check

@@ -1,5 +1,6 @@
-ghost use Rattle.std.specs.Prelude.{◌≡◌, ◌+◌, ◌*◌, ◌<◌, ◌≤◌, ◌^◌, ◌++◌, length, OnOk, IfSome, IsTrue, ◌↔◌};
-ghost use Rattle.commit_frames.specs.Digits.{digits, number_in};
+ghost use Rattle.std.specs.Prelude.{◌≡◌, ◌+◌, ◌*◌, ◌<◌, ◌≤◌, ◌^◌, ◌++◌, length, OnOk, IfSome, IsSomeAnd, IsTrue, ◌↔◌, ◌-◌, ℕ};
+ghost use Rattle.commit_frames.specs.Digits.{digits, either, number_in};
+ghost use Rattle.commit_frames.specs.Headers.{rest_of};
 ghost use Rattle.commit_frames.specs.Frames.{IsLostFrom};
 
 use std::alloc::AllocError;
@@ -43,4 +44,41 @@ pub(crate) fn may_be(bytes: &[u8], number: u64) -> bool
     };
     let digit = 128 + (number % 128) as u8;
     (*byte == 0 || *byte == digit) && may_be(rest, number / 128)
+}
+
+/// Returns the digit that is spelled twice by these bytes, the second time as 383 less it; 0 if both are
+/// 0, and `None` if they tell no digit or two.
+fn either(byte: u8, twin: u8) -> Option<u8>
+    ensures { result ≡ either byte twin }
+{
+    if twin == 0 {
+        return Some(byte);
+    }
+    if twin < 128 {
+        return None;
+    }
+    let digit = 255 - (twin - 128);
+    if byte == 0 || byte == digit {
+        Some(digit)
+    } else {
+        None
+    }
+}
+
+/// Returns the five digits of a number that these bytes spell, and then what is left of it; 0 stands for
+/// each that was lost twice. `None` if they are not left of one number.
+pub(crate) fn merged(bytes: &[u8], twins: &[u8]) -> Option<[u8; 5]>
+    requires bytes { length bytes.now ≡ 5 }
+    requires twins { length twins.now ≡ 5 }
+    ensures size { IfSome result (λ m. length m ≡ 5) }
+    ensures there { IfSome result (λ m. (n : ℕ) → n < 2 ^ 35 → IsLostFrom (digits 5 n) m → IsLostFrom (digits 5 n) bytes.now × IsLostFrom (digits 5 (rest_of n)) twins.now) }
+    ensures each { (n : ℕ) → n < 2 ^ 35 → IsLostFrom (digits 5 n) bytes.now → IsLostFrom (digits 5 (rest_of n)) twins.now → IsSomeAnd result (λ m. IsLostFrom (digits 5 n) m) }
+{
+    Some([
+        either(bytes[0], twins[0])?,
+        either(bytes[1], twins[1])?,
+        either(bytes[2], twins[2])?,
+        either(bytes[3], twins[3])?,
+        either(bytes[4], twins[4])?,
+    ])
 }

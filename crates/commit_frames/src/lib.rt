@@ -14,8 +14,8 @@ mod record;
 mod remains;
 
 pub use frame::put_frame;
-pub use header::{HEADER_BYTES, Header};
-pub use laws::{a_record_is_read_back, a_torn_frame_is_refused};
+pub use header::{HEADER_BYTES, Header, zeros_of};
+pub use laws::{a_changed_byte_is_told, a_record_is_read_back, a_torn_frame_is_refused};
 pub use mark::Mark;
 pub use record::{RECORD_BYTES, RecordKind, Shape, put_record, shape_of};
 pub use remains::Remains;

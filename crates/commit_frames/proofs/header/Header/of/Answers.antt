@@ -1,5 +1,7 @@
-use Rattle.std.proofs.Common.{arith, sym, ap, Some, length, length-append}
-use Rattle.commit_frames.specs.Headers.{header_bytes}
+use Rattle.std.proofs.Common.{arith, sym, ap, refl, ◌∙◌, Some, length, length-append}
+use Rattle.std.proofs.lemmas.Bool.{false≢true}
+use Rattle.commit_frames.specs.Headers.{header_bytes, rest_of}
+use Rattle.commit_frames.proofs.Leftovers.{same_some}
 use Rattle.commit_frames.proofs.Pieces.{spelled, fits_at, read_back, read_once, length-header}
 use Rattle.commit_frames.proofs.header.Header.of.Goals as goal
 
@@ -12,6 +14,8 @@ returns-clause-there c = (
         first = sym c.in_ok-first.ensures.value;
         size = sym c.in_ok-length.ensures.value;
         zeros = sym c.in_ok-zeros.ensures.value;
+        size_twin = sym c.in_ok-length_twin.ensures.value ∙ ap Some (c.if-not-is_twin.ensures.0 refl);
+        zeros_twin = sym c.in_ok-zeros_twin.ensures.value ∙ ap Some (c.if-not-is_twin-2.ensures.0 refl);
         check = sym c.in_ok-check.ensures.value;
       }),
   (
@@ -22,7 +26,7 @@ returns-clause-there c = (
         first = fits_at b 10 9 c.in_ok-first.first (omega arith) c.in_ok-first.ensures.below;
         size = fits_at b 19 5 c.in_ok-length.length (omega arith) c.in_ok-length.ensures.below;
         zeros = fits_at b 24 5 c.in_ok-zeros.zeros (omega arith) c.in_ok-zeros.ensures.below;
-        check = fits_at b 29 5 c.in_ok-check.check (omega arith) c.in_ok-check.ensures.below;
+        check = fits_at b 39 5 c.in_ok-check.check (omega arith) c.in_ok-check.ensures.below;
       }),
 )
 
@@ -35,6 +39,8 @@ returns-clause-each c h rest fits is =
       first = sym c.in_ok-first.ensures.value;
       size = sym c.in_ok-length.ensures.value;
       zeros = sym c.in_ok-zeros.ensures.value;
+      size_twin = sym c.in_ok-length_twin.ensures.value ∙ ap Some (c.if-not-is_twin.ensures.0 refl);
+      zeros_twin = sym c.in_ok-zeros_twin.ensures.value ∙ ap Some (c.if-not-is_twin-2.ensures.0 refl);
       check = sym c.in_ok-check.ensures.value;
     })
     (read_back c.args.bytes.now h rest fits is))
@@ -57,6 +63,26 @@ returns-in_err-length-clause-each c h rest fits is = let read = (read_back c.arg
 
 pub returns-in_err-zeros-clause-each : goal.returns-in_err-zeros-clause-each
 returns-in_err-zeros-clause-each c h rest fits is = let read = (read_back c.args.bytes.now h rest fits is).zeros in absurd (cc (c.in_err-zeros.ensures.value, read))
+
+pub returns-in_err-length_twin-clause-each : goal.returns-in_err-length_twin-clause-each
+returns-in_err-length_twin-clause-each c h rest fits is = let read = (read_back c.args.bytes.now h rest fits is).size_twin in absurd (cc (c.in_err-length_twin.ensures.value, read))
+
+pub returns-in_err-zeros_twin-clause-each : goal.returns-in_err-zeros_twin-clause-each
+returns-in_err-zeros_twin-clause-each c h rest fits is = let read = (read_back c.args.bytes.now h rest fits is).zeros_twin in absurd (cc (c.in_err-zeros_twin.ensures.value, read))
+
+pub returns-then-not-is_twin-clause-each : goal.returns-then-not-is_twin-clause-each
+returns-then-not-is_twin-clause-each c h rest fits is =
+    let read = read_back c.args.bytes.now h rest fits is in
+    let size = same_some _ _ _ c.in_ok-length.ensures.value read.size in
+    let twin = same_some _ _ _ c.in_ok-length_twin.ensures.value read.size_twin in
+    absurd (false≢true (c.if-not-is_twin.ensures.1 (twin ∙ ap rest_of (sym size))))
+
+pub returns-then-not-is_twin-2-clause-each : goal.returns-then-not-is_twin-2-clause-each
+returns-then-not-is_twin-2-clause-each c h rest fits is =
+    let read = read_back c.args.bytes.now h rest fits is in
+    let zeros = same_some _ _ _ c.in_ok-zeros.ensures.value read.zeros in
+    let twin = same_some _ _ _ c.in_ok-zeros_twin.ensures.value read.zeros_twin in
+    absurd (false≢true (c.if-not-is_twin-2.ensures.1 (twin ∙ ap rest_of (sym zeros))))
 
 pub returns-in_err-check-clause-each : goal.returns-in_err-check-clause-each
 returns-in_err-check-clause-each c h rest fits is = let read = (read_back c.args.bytes.now h rest fits is).check in absurd (cc (c.in_err-check.ensures.value, read))
